@@ -116,7 +116,7 @@ fn enters_from(
 }
 
 /// The line of the first statement that may jump into the range of a DO or into an arm of an IF from outside (ANSI
-/// X3.9-1978, sections 11.6, 11.8 and 11.10.4). `heads` has the innermost ranges and arms, as the walk of the nesting
+/// X3.9-1978, sections 11.6, 11.8 and 11.10.8). `heads` has the innermost ranges and arms, as the walk of the nesting
 /// tells them.
 pub fn first_jump_into(
     stmts: &[Labelled],

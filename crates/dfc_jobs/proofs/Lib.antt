@@ -9,7 +9,6 @@ mod ThreeTexts
 mod SamplesMade
 mod FirstLines
 mod Items
-mod Sizes
 mod FormsTold
 pub mod GraphMade
 mod TextsRead

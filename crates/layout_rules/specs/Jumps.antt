@@ -1,4 +1,4 @@
--- Jumps into the range of a DO or into an arm of an IF (ANSI X3.9-1978, sections 11.6, 11.8 and 11.10.4).
+-- Jumps into the range of a DO or into an arm of an IF (ANSI X3.9-1978, sections 11.6, 11.8 and 11.10.8).
 use Rattle.std.specs.Prelude.{ℕ, ◌+◌, ◌-◌, Bool, true, false, not, if◌then◌else◌, ◌&&◌, ◌||◌, nat_lt, nat_le, ◌==◌, List, [], ◌∷◌, length, flat_map, Option, Some, None, slice_get, drop}
 use Rattle.std.specs.List.{list_any, range_with_len}
 use Rattle.f77_tree.specs.declared.statements.Labelled.{Labelled}

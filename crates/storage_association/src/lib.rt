@@ -1,4 +1,4 @@
-//! The places in storage of names that COMMON and EQUIVALENCE link (ANSI X3.9-1978, sections 2.8 and 8.2 to 8.3).
+//! The places in storage of names that COMMON and EQUIVALENCE link (ANSI X3.9-1978, sections 8.2, 8.3 and 17.1).
 #![tactic(auto)]
 
 mod equations;

@@ -3,7 +3,7 @@ use Rattle.std.proofs.lemmas.Int.{ints}
 use Rattle.f77_tree.specs.declared.declarations.Dim.{Dim}
 use Rattle.f77_tree.specs.Declarations.{AreDims}
 use Rattle.f77_tree.specs.Value.{size_of}
-use Rattle.dfc_jobs.proofs.Sizes.{next-size, whole-size, width-nat, width-is}
+use Rattle.alias_classes.proofs.SizeLemmas.{next-size, whole-size, width-nat, width-is}
 use Rattle.dfc_jobs.proofs.store.size.Goals as goal
 
 abbrev no_dim : Dim

@@ -1,5 +1,5 @@
 use Rattle.std.proofs.Common.{◌≡◌, ◌*◌, ◌≤◌, drop}
-use Rattle.dfc_jobs.proofs.Sizes.{count_of}
+use Rattle.alias_classes.proofs.SizeLemmas.{count_of}
 use Rattle.dfc_jobs.proofs.store.size.Given as goal
 
 abbrev pub invariant-loop-dim : goal.invariant-loop-dim
