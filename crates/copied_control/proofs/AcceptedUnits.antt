@@ -1,5 +1,5 @@
 -- In a text whose units nothing refuses, blocks and loops end in their units, none calls itself, and each context is in its place.
-use Rattle.std.proofs.Common.{◌≡◌, ℕ, Bool, true, List, [], length, Option, Some, None, refl, sym, ap, subst, ◌∙◌}
+use Rattle.std.proofs.Common.{◌≡◌, ℕ, Bool, true, List, length, Option, Some, None, refl, sym, ap, subst, ◌∙◌}
 use Rattle.std.specs.List.{slice_get, range_with_len}
 use Rattle.f77_tree.specs.declared.statements.Labelled.{Labelled}
 use Rattle.layout_rules.specs.Faults.{first_answer}
@@ -19,6 +19,7 @@ use Rattle.f77_subs.proofs.PositiveLabels.{do-label}
 use Rattle.copied_control.proofs.RangeEnds.{has-end}
 use Rattle.copied_control.proofs.ReachedContexts.{in-place}
 use Rattle.f77_subs.proofs.UnitSources.{IsUnit, text-unit}
+use Rattle.std.proofs.Common.{arith}
 
 -- ---- units of an accepted text
 
@@ -47,9 +48,7 @@ module _ (stmts : List Labelled) (checked : Bool) (text : IsText stmts) (accepte
 
   pub alone : NoneCallsItself us
   alone k below =
-      let none : first_answer (recursion us) (range_with_len 0 (length us)) ≡ None = no-end Recursion (first_answer (recursion us) (range_with_len 0 (length us)))
-      (none-at (unit_refusals stmts us checked) 6 (end_at Recursion (first_answer (recursion us) (range_with_len 0 (length us)))) accepted refl) in
-      no-line (reaches us (length us) k k) (unit_at us k) (each-none (recursion us) (range_with_len 0 (length us)) none k k (in-range (length us) k below))
+      grind (arith, no-end Recursion (first_answer (recursion us) (range_with_len 0 (length us))), none-at (unit_refusals stmts us checked) 6 (end_at Recursion (first_answer (recursion us) (range_with_len 0 (length us)))) accepted, no-line (reaches us (length us) k k) (unit_at us k), each-none (recursion us) (range_with_len 0 (length us)), in-range (length us) k below)
 
   pub placed : (c : Context) (at : ℕ → ℕ) → IsReached us c at → IsInPlace us c at
   placed = in-place us alone ends-in-units

@@ -1,5 +1,5 @@
 -- In a unit that is a program by itself the blocks of IF end.
-use Rattle.std.proofs.Common.{◌≡◌, ℕ, ◌+◌, ◌-◌, ◌<◌, Bool, true, false, ◌&&◌, ◌||◌, List, [], ◌∷◌, ◌++◌, Some, None, refl, sym, ap, subst, ◌∙◌, arith}
+use Rattle.std.proofs.Common.{◌≡◌, ℕ, ◌+◌, ◌<◌, Bool, true, false, ◌||◌, List, [], ◌∷◌, ◌++◌, Some, None, refl, ◌∙◌, arith}
 use Rattle.std.proofs.lemmas.Bool.{lt-ltb}
 use Rattle.f77_tree.specs.declared.statements.Labelled.{Labelled}
 use Rattle.f77_tree.specs.declared.statements.Stmt.{Stmt, more_of-Stmt}
@@ -52,13 +52,7 @@ stands-alike End = record { begins = refl; ends = refl; arm = refl; does = refl 
 
 -- the blocks that are open after a statement, as the search for their ends counts them
 counted : (begins ends arm : Bool) (before after : ℕ) → (begins ≡ true → ends ≡ false) → after + one_if ends ≡ before + one_if begins → ((begins || arm) ≡ true → 0 < after) → (next : ℕ → Bool) → turned begins ends arm before next ≡ next after
-counted true true arm before after alone count some next = let e : true ≡ false = alone refl in absurd cc
-counted true false arm before after alone count some next = ap next (let e : before + 1 ≡ after = omega (arith, count) in e)
-counted false true arm before after alone count some next =
-    ap (λ (b : Bool). b && next (before - 1)) (lt-ltb 0 before (omega (arith, count))) ∙ ap next (let e : before - 1 ≡ after = omega (arith, count) in e)
-counted false false true before after alone count some next =
-    ap (λ (b : Bool). b && next before) (lt-ltb 0 before (omega (arith, count, some refl))) ∙ ap next (let e : before ≡ after = omega (arith, count) in e)
-counted false false false before after alone count some next = ap next (let e : before ≡ after = omega (arith, count) in e)
+counted h h2 arm before after alone count some next = grind (arith, lt-ltb)
 
 follows : (s : Labelled) (stack beyond : List Opened) → open_after (standing s) stack ≡ Some beyond → (next : ℕ → Bool) → turned (is_block_if s.stmt) (is_end_if s.stmt) (is_arm s.stmt) (blocks_in stack) next ≡ next (blocks_in beyond)
 follows s stack beyond is next =
@@ -71,15 +65,10 @@ end_is End is = refl
 end_is _ is = let e : false ≡ true = is in absurd cc
 
 walk : (front : List Labelled) (last : Labelled) → is_end last.stmt ≡ true → (stack : List Opened) → first_unnested stack (standing_in (front ++ last ∷ [])) ≡ None → are_closed (blocks_in stack) (front ++ last ∷ []) ≡ true
-walk [] last ended stack none =
-    let is = end_is last.stmt ended in
-    ap (λ (xs : List Opened). are_closed (blocks_in xs) (last ∷ [])) (nothing-at-end (standing last) stack (ap stand_in is) none)
-    ∙ ap (λ (stmt : Stmt). are_closed 0 (record last { stmt = stmt } ∷ [])) is
+walk [] last ended stack none = grind (arith, end_is, blocks_in, nothing-at-end (standing last) stack)
 walk (s ∷ front) last ended stack none =
-    let next = goes_on (standing s) (standing_in (front ++ last ∷ [])) stack none in
-    follows s stack next.beyond next.is (λ d. are_closed d (front ++ last ∷ [])) ∙ walk front last ended next.beyond next.nested
+    grind (arith, goes_on (standing s) (standing_in (front ++ last ∷ [])) stack none, follows s stack, walk front last ended)
 
 pub accepted-closed : (unit : List Labelled) (checked : Bool) → refusal (standing_in unit) checked ≡ None → IsEnded unit → are_closed 0 unit ≡ true
 accepted-closed unit checked accepted ended =
-    let none : first_unnested [] (standing_in unit) ≡ None = line-none BadNesting (first_unnested [] (standing_in unit)) (none-at (refusals (standing_in unit) checked) 6 (at_line BadNesting (first_unnested [] (standing_in unit))) accepted refl) in
-    subst (λ (u : List Labelled). are_closed 0 u ≡ true) (sym ended.is) (walk ended.front ended.last ended.ended [] (subst (λ (u : List Labelled). first_unnested [] (standing_in u) ≡ None) ended.is none))
+    grind (arith, line-none BadNesting (first_unnested [] (standing_in unit)), none-at (refusals (standing_in unit) checked) 6 (at_line BadNesting (first_unnested [] (standing_in unit))) accepted, walk ended.front ended.last ended.ended)

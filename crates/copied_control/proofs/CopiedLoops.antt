@@ -1,5 +1,5 @@
 -- The DOs whose ranges end at a statement of a copy are those of the copy whose ranges end there in the unit.
-use Rattle.std.proofs.Common.{◌≡◌, ℕ, zero, suc, ◌+◌, ◌-◌, ◌<◌, ◌≤◌, ◌⊎◌, inl, inr, ⊎_elim, Bool, true, false, List, [], ◌∷◌, ◌++◌, length, map, take, Option, Some, None, if◌then◌else◌, sum_by, refl, sym, ap, subst, ◌∙◌, arith}
+use Rattle.std.proofs.Common.{◌≡◌, ℕ, zero, suc, ◌+◌, ◌-◌, ◌<◌, ◌≤◌, ◌⊎◌, inl, inr, ⊎_elim, Bool, true, false, List, [], ◌∷◌, ◌++◌, length, map, take, Option, Some, None, sum_by, refl, sym, ap, subst, ◌∙◌, arith}
 use Rattle.std.specs.List.{slice_get}
 use Rattle.std.proofs.lemmas.Bool.{cases_order, ne_eqb}
 use Rattle.std.proofs.lemmas.List.{append-nil}
@@ -12,7 +12,7 @@ use Rattle.layout_rules.specs.Labels.{statement_of}
 use Rattle.f77_subs.specs.Units.{Call, call_in, guard_of, unit_at, unit_of}
 use Rattle.f77_subs.specs.declared.entity.Entity.{Entity}
 use Rattle.f77_subs.specs.Entities.{stands_for}
-use Rattle.f77_subs.specs.Widths.{is_kept, width, body_width, labels_by, labels, body_labels, labels_before}
+use Rattle.f77_subs.specs.Widths.{is_kept, width, body_width, labels, body_labels, labels_before}
 use Rattle.f77_subs.specs.Copies.{Change, Context, bare, changes, changed_stmt, call_at, end_by, around, number_at, piece, pieces, copy}
 use Rattle.f77_subs.specs.CopiedLoops.{loop_if, loops_from, loops_of_pieces, HaveEnds, HasItsLoops}
 use Rattle.f77_subs.specs.ListedCopies.{piece_at, called_context, copied_place, lines_before}
@@ -26,9 +26,7 @@ use Rattle.copied_control.proofs.WhichPieces.{Which, left_out, calling, single, 
 around-loops : (m : ℕ) (x : Change) (a b line : ℕ) (guard : Option RawExpr) (inside : List Labelled) (place : ℕ) → loops_from m (around x a b line guard inside) place ≡ loops_from m inside (place + lines_before guard)
 around-loops m x a b line None inside place = loops-append m inside (bare b line Continue ∷ []) (place + 1) ∙ append-nil (loops_from m inside (place + 1))
 around-loops m x a b line (Some condition) inside place =
-    loops-append m inside (bare 0 line EndIf ∷ bare b line Continue ∷ []) (place + 1 + 1)
-    ∙ append-nil (loops_from m inside (place + 1 + 1))
-    ∙ ap (λ (n : ℕ). loops_from m inside n) (let e : place + 1 + 1 ≡ place + 2 = omega arith in e)
+    grind (arith, loops-append m inside (bare 0 line EndIf ∷ bare b line Continue ∷ []) (place + 1 + 1), append-nil (loops_from m inside (place + 1 + 1)))
 
 -- ---- DOs of pieces, one after another
 
@@ -87,10 +85,7 @@ module _ (us : List (List Labelled)) (c : Context) (at : ℕ → ℕ) (m : ℕ) 
 -- ---- copies
 
 pub copy-loops : (us : List (List Labelled)) (c : Context) (m p : ℕ) → loops_from m (copy us (suc c.depth) c.unit c.arguments c.base) p ≡ loops_of_pieces us c (copied_place us c p) m (unit_at us c.unit) 0
-copy-loops us c m p = pieces-loops us c (copied_place us c p) m (unit_at us c.unit) 0 p 0 refl (record {
-  stands = λ j s is. ap (λ (n : ℕ). slice_get (unit_at us c.unit) n) (let e : 0 + j ≡ j = omega arith in e) ∙ is;
-  begins = λ j s is. ap (λ (n : ℕ). copied_place us c p n) (let e : 0 + j ≡ j = omega arith in e);
-})
+copy-loops us c m p = grind (arith, pieces-loops us c (copied_place us c p) m (unit_at us c.unit) 0 p 0)
 
 module _ (us : List (List Labelled)) (have : HaveEnds us) where
   -- ---- labels of ends
@@ -106,13 +101,7 @@ module _ (us : List (List Labelled)) (have : HaveEnds us) where
     count = labels (body_labels us c.depth) us c.unit
 
     pub last-count : (last : Labelled) → is_kept c.unit last.stmt ≡ true → 0 < last.label → (n : ℕ) → end_by us c.depth (call_in last.stmt) n + 1 ≡ n + count last
-    last-count last kept some n =
-        by_call (call_in last.stmt)
-        ∙ ap (λ (k : Bool). n + (if k then labels_by (body_labels us c.depth) us last.label (call_in last.stmt) else 0)) (sym kept)
-      where
-        by_call : (call : Option Call) → end_by us c.depth call n + 1 ≡ n + labels_by (body_labels us c.depth) us last.label call
-        by_call None = ap (λ (b : Bool). n + (if b then 0 else 1)) (sym (ne_eqb last.label 0 (λ (e : last.label ≡ 0). omega (arith, e, some))))
-        by_call (Some call) = let e : n + body_labels us c.depth (unit_of us call.name) + 1 + 1 ≡ n + (2 + body_labels us c.depth (unit_of us call.name)) = omega arith in e
+    last-count last kept some n = grind (arith, ne_eqb last.label 0)
 
     -- where the range of a DO ends, and with which label its copy's does
     pub record Ends (label : ℕ) : Type 0 where
@@ -150,12 +139,7 @@ module _ (us : List (List Labelled)) (have : HaveEnds us) where
 
     module _ (outside : (k : ℕ) (arguments : List Entity) (base m place : ℕ) → (base < m → m ≤ base + body_labels us c.depth k → ⊥) → loops_from m (copy us c.depth k arguments base) place ≡ []) where
       pub call-away : (m place p : ℕ) (s : Labelled) (call : Call) → call_in s.stmt ≡ Some call → (number place < m → m ≤ number place + body_labels us c.depth (unit_of us call.name) → ⊥) → loops_from m (piece_at us c place s) p ≡ []
-      call-away m place p s call calls away =
-          let g = unit_of us call.name in
-          let passed = map (stands_for us c.unit c.arguments) call.arguments in
-          ap (λ (xs : List Labelled). loops_from m xs p) (piece-around us c place s call calls)
-          ∙ around-loops m (changes us c) (number place) (number place + body_labels us c.depth g + 1) s.line (guard_of s.stmt) (copy us c.depth g passed (number place)) p
-          ∙ outside g passed (number place) m (p + lines_before (guard_of s.stmt)) away
+      call-away m place p s call calls away = grind (arith, piece-around us c place s call calls, around-loops m (changes us c) (number place))
 
       pub piece-away : (m place p : ℕ) (s : Labelled) → IsAway m place s → loops_from m (piece_at us c place s) p ≡ []
       piece-away m place p s away = by_which (which us c place s)
@@ -171,20 +155,8 @@ module _ (us : List (List Labelled)) (have : HaveEnds us) where
 
       -- away from the labels of the whole copy
       pub far-away : (m place : ℕ) (s : Labelled) → slice_get unit place ≡ Some s → (c.base < m → m ≤ c.base + body_labels us (suc c.depth) c.unit → ⊥) → IsAway m place s
-      far-away m place s is far = record {
-        lone = λ label does ends.
-            let e = ends-at place label s is does in
-            let above = number-above us c e.place in
-            let most = number-within us c e.place e.last e.stands in
-            let one = e.one in
-            let number_is = e.number_is in
-            far (omega (arith, above, one, number_is, ends)) (omega (arith, most, number_is, ends));
-        within = λ call calls low high.
-            let above = number-above us c place in
-            let most = number-within us c place s is in
-            let many = call-count us c s call calls in
-            far (omega (arith, above, low)) (omega (arith, most, many, high));
-      }
+      far-away m place s is far =
+          grind (arith, ends-at place, number-above us c, number-within us c, number-above us c place, number-within us c place s is, call-count us c s)
 
   -- DOs of a copy end at its labels
   pub outside : (depth k : ℕ) (arguments : List Entity) (base m p : ℕ) → (base < m → m ≤ base + body_labels us depth k → ⊥) → loops_from m (copy us depth k arguments base) p ≡ []

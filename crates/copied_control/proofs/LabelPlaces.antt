@@ -14,6 +14,7 @@ use Rattle.f77_subs.specs.Copies.{Change, Context, bare, changes, changed, chang
 use Rattle.f77_subs.specs.ListedCopies.{HasAt, StandsIn, IsClosedAt, piece_at, closing}
 use Rattle.f77_subs.proofs.Having.{alike, got, has_second}
 use Rattle.copied_control.proofs.WhichPieces.{IsPlain, Which, left_out, calling, single, which, plain-piece, piece-around}
+use Rattle.std.proofs.lemmas.Grind.{elements}
 
 -- ---- labels that stand in order
 
@@ -36,18 +37,10 @@ first x rest k n is = by_test (x.label == 0) refl n is
 
 pub at-least : (list : List Labelled) (k n p : ℕ) (s : Labelled) → labels_written list ≡ range_with_len k n → slice_get list p ≡ Some s → 0 < s.label → k ≤ s.label
 at-least [] k n p s rows is some = let e : None ≡ Some s = is in absurd cc
-at-least (x ∷ rest) k n p s rows is some = by_first (first x rest k n rows) p is (λ i count j more there. at-least rest i count j s more there some)
-  where
-    by_first : First x rest k n → (p : ℕ) → slice_get (x ∷ rest) p ≡ Some s → ((i count j : ℕ) → labels_written rest ≡ range_with_len i count → slice_get rest j ≡ Some s → i ≤ s.label) → k ≤ s.label
-    by_first (unlabelled none more) zero is later = let e : Some x ≡ Some s = is in let same : x.label ≡ s.label = cc in absurd (omega (arith, same, none, some))
-    by_first (unlabelled none more) (suc p) is later = later k n p more is
-    by_first (labelled n has label more) zero is later = let e : Some x ≡ Some s = is in let same : x.label ≡ s.label = cc in omega (arith, same, label)
-    by_first (labelled n has label more) (suc p) is later = let e = later (k + 1) n p more is in omega (arith, e)
+at-least (x ∷ rest) k n p s rows is some = grind (arith, first x rest k n rows, at-least rest)
 
 found-next : (x : Labelled) (rest : List Labelled) (m p : ℕ) → (x.label ≡ m → ⊥) → statement_of rest m ≡ p → statement_of (x ∷ rest) m ≡ suc p
-found-next x rest m p other is =
-    ap (λ (b : Bool). cond (not b) (1 + statement_of rest m) 0) (ne_eqb x.label m other)
-    ∙ (let e : 1 + statement_of rest m ≡ suc p = omega (arith, is) in e)
+found-next x rest m p other is = grind (arith, ne_eqb x.label m other)
 
 found-here : (x : Labelled) (rest : List Labelled) (m : ℕ) → x.label ≡ m → statement_of (x ∷ rest) m ≡ 0
 found-here x rest m same = ap (λ (b : Bool). cond (not b) (1 + statement_of rest m) 0) (eq-eqb x.label m same)
@@ -55,15 +48,7 @@ found-here x rest m same = ap (λ (b : Bool). cond (not b) (1 + statement_of res
 -- a label leads to the statement that bears it
 pub leads : (list : List Labelled) (k n p m : ℕ) (s : Labelled) → labels_written list ≡ range_with_len k n → slice_get list p ≡ Some s → s.label ≡ m → 0 < m → statement_of list m ≡ p
 leads [] k n p m s rows is label some = let e : None ≡ Some s = is in absurd cc
-leads (x ∷ rest) k n p m s rows is label some = by_first (first x rest k n rows) p is (λ i count j more there. leads rest i count j m s more there label some)
-  where
-    by_first : First x rest k n → (p : ℕ) → slice_get (x ∷ rest) p ≡ Some s → ((i count j : ℕ) → labels_written rest ≡ range_with_len i count → slice_get rest j ≡ Some s → statement_of rest m ≡ j) → statement_of (x ∷ rest) m ≡ p
-    by_first (unlabelled none more) zero is later = let e : Some x ≡ Some s = is in let same : x.label ≡ s.label = cc in absurd (omega (arith, same, none, some, label))
-    by_first (unlabelled none more) (suc p) is later = found-next x rest m p (λ (e : x.label ≡ m). omega (arith, e, none, some)) (later k n p more is)
-    by_first (labelled n has mine more) zero is later = let e : Some x ≡ Some s = is in let same : x.label ≡ s.label = cc in found-here x rest m (same ∙ label)
-    by_first (labelled n has mine more) (suc p) is later =
-        let above : k + 1 ≤ s.label = at-least rest (k + 1) n p s more is (omega (arith, label, some)) in
-        found-next x rest m p (λ (e : x.label ≡ m). omega (arith, e, mine, above, label)) (later (k + 1) n p more is)
+leads (x ∷ rest) k n p m s rows is label some = grind (arith, elements, first, found-next, found-here, at-least, leads rest)
 
 pub closed-leads : (list : List Labelled) (count place b : ℕ) → labels_written list ≡ range_with_len 1 count → 0 < b → (closed : IsClosedAt list place b) → statement_of list b + 1 ≡ place + length (closing closed.guarded b closed.line)
 closed-leads list count place b rows some closed = by_guard closed.guarded closed.line closed.stand

@@ -1,5 +1,5 @@
 -- The places of DOs in lists.
-use Rattle.std.proofs.Common.{◌≡◌, ℕ, suc, ◌+◌, Bool, true, false, cond, List, [], ◌∷◌, ◌++◌, length, drop, filter, reverse, Option, Some, refl, ap, ◌∙◌, arith}
+use Rattle.std.proofs.Common.{◌≡◌, ℕ, suc, ◌+◌, Bool, true, false, List, [], ◌∷◌, ◌++◌, length, drop, filter, reverse, refl, ap, arith}
 use Rattle.std.specs.List.{slice_get, range_with_len}
 use Rattle.f77_tree.specs.declared.statements.Labelled.{Labelled}
 use Rattle.layout_rules.specs.Executables.{is_do_to, is_do_in, loops_to}
@@ -13,15 +13,12 @@ loop-if-append false place xs ys all is = is
 pub loops-append : (label : ℕ) (xs ys : List Labelled) (place : ℕ) → loops_from label (xs ++ ys) place ≡ loops_from label xs place ++ loops_from label ys (place + length xs)
 loops-append label [] ys place = ap (λ (n : ℕ). loops_from label ys n) (let e : place ≡ place + 0 = omega arith in e)
 loops-append label (s ∷ xs) ys place =
-    loop-if-append (is_do_to label s.stmt) place (loops_from label xs (place + 1)) (loops_from label ys (place + suc (length xs))) (loops_from label (xs ++ ys) (place + 1))
-    (loops-append label xs ys (place + 1) ∙ ap (λ (n : ℕ). loops_from label xs (place + 1) ++ loops_from label ys n) (let e : place + 1 + length xs ≡ place + suc (length xs) = omega arith in e))
+    grind (arith, loop-if-append (is_do_to label s.stmt) place (loops_from label xs (place + 1)) (loops_from label ys (place + suc (length xs))) (loops_from label (xs ++ ys) (place + 1)), loops-append label xs ys (place + 1))
 
 filtered : (stmts : List Labelled) (label : ℕ) (xs : List Labelled) (place : ℕ) → drop place stmts ≡ xs → filter (λ d. is_do_in label (slice_get stmts d)) (range_with_len place (length xs)) ≡ loops_from label xs place
 filtered stmts label [] place is = refl
 filtered stmts label (s ∷ xs) place is =
-    let here : slice_get stmts place ≡ Some s = first_here stmts place s xs is in
-    ap (λ (o : Option Labelled). cond (is_do_in label o) (place ∷ filter (λ d. is_do_in label (slice_get stmts d)) (range_with_len (place + 1) (length xs))) (filter (λ d. is_do_in label (slice_get stmts d)) (range_with_len (place + 1) (length xs)))) here
-    ∙ ap (λ (rest : List ℕ). loop_if (is_do_to label s.stmt) place rest) (filtered stmts label xs (place + 1) (rest_here stmts place s xs is))
+    grind (arith, first_here stmts place s xs is, filtered stmts label xs (place + 1) (rest_here stmts place s xs is), rest_here stmts place s xs is)
 
 pub loops-are : (stmts : List Labelled) (label : ℕ) → loops_to stmts label ≡ reverse (loops_from label stmts 0)
 loops-are stmts label = ap (λ (xs : List ℕ). reverse xs) (filtered stmts label stmts 0 refl)

@@ -1,7 +1,7 @@
 -- The DOs to the labels of a context, and those of the main program.
 use Rattle.std.proofs.Common.{◌≡◌, ℕ, zero, suc, ◌+◌, ◌<◌, ◌≤◌, ⊎_elim, nat_lt, Bool, true, false, not, List, [], ◌∷◌, ◌++◌, length, map, take, drop, reverse, Some, None, sum_by, refl, sym, ap, subst, ◌∙◌, arith, length-append}
 use Rattle.std.specs.List.{slice_get, list_all}
-use Rattle.std.proofs.lemmas.Bool.{cases_order, and_parts, not-true, le-ltb, lt-ltb}
+use Rattle.std.proofs.lemmas.Bool.{cases_order, not-true, le-ltb, lt-ltb}
 use Rattle.std.proofs.lemmas.List.{append_assoc, append-nil, map-append, reverse-append, take-take, take-append-drop, length-take-le}
 use Rattle.std.proofs.lemmas.List.Sums.{prefix_len-le-length}
 use Rattle.f77_tree.specs.declared.statements.Labelled.{Labelled}
@@ -27,10 +27,7 @@ use Rattle.copied_control.proofs.WhichPieces.{Which, left_out, calling, single, 
 pub map-reverse : (f : ℕ → ℕ) (xs : List ℕ) → reverse (map f xs) ≡ map f (reverse xs)
 map-reverse f [] = refl
 map-reverse f (x ∷ xs) =
-    reverse-append (f x ∷ []) (map f xs)
-    ∙ ap (λ (ys : List ℕ). ys ++ f x ∷ []) (map-reverse f xs)
-    ∙ sym (map-append f (reverse xs) (x ∷ []))
-    ∙ ap (λ (ys : List ℕ). map f ys) (sym (reverse-append (x ∷ []) xs))
+    grind (arith, reverse-append (f x ∷ []) (map f xs), map-reverse f xs, map-append f (reverse xs) (x ∷ []), reverse-append (x ∷ []) xs)
 
 -- ---- the end of a range
 
@@ -84,15 +81,7 @@ module _ (us : List (List Labelled)) (have : HaveEnds us) (list : List Labelled)
             (cases_order e.place j)
 
     its-end : (place : ℕ) (s : Labelled) → slice_get unit place ≡ Some s → is_do_to label s.stmt ≡ true → (changes us c).end label ≡ m
-    its-end place s is does =
-        let e = ends-at us have c place label s is does in
-        let found : Some e.last ≡ Some last = sym e.stands ∙ ap (λ (n : ℕ). slice_get unit n) e.there ∙ end.stands in
-        let same_last : e.last ≡ last = cc in
-        let counts = ap (λ (x : Labelled). count x) same_last in
-        let numbers = ap (λ (n : ℕ). number n) e.there in
-        let number_is = e.number_is in
-        let mine = m-is in
-        omega (arith, counts, numbers, number_is, mine)
+    its-end place s is does = cc
 
     -- no copy inside has the label
     not-within : (place : ℕ) (s : Labelled) (call : Call) → slice_get unit place ≡ Some s → call_in s.stmt ≡ Some call → number place < m → m ≤ number place + body_labels us c.depth (unit_of us call.name) → ⊥
@@ -152,14 +141,7 @@ module _ (us : List (List Labelled)) (have : HaveEnds us) (list : List Labelled)
 
     pub ended-loops : loops_to list m ≡ map at (loops_to unit label)
     ended-loops =
-        let above = number-above us c j in
-        let most = number-within us c j last end.stands in
-        let mine = m-is in
-        let some = some-labels in
-        loops-are list m
-        ∙ ap (λ (xs : List ℕ). reverse xs) (has m (omega (arith, above, mine, some)) (omega (arith, most, mine)) ∙ mapped unit 0 (λ i s is. ap (λ (n : ℕ). slice_get unit n) (let e : 0 + i ≡ i = omega arith in e) ∙ is))
-        ∙ map-reverse at (loops_from label unit 0)
-        ∙ ap (λ (xs : List ℕ). map at xs) (sym (loops-are unit label))
+        grind (arith, number-above us c j, number-within us c j last end.stands, m-is, some-labels, loops-are list m, mapped unit 0, map-reverse, loops-are unit label)
 
   -- ---- the label before a copy
 
@@ -209,10 +191,7 @@ module _ (us : List (List Labelled)) (have : HaveEnds us) (list : List Labelled)
 
 declared-none : (m : ℕ) (xs : List Labelled) (place : ℕ) → list_all (λ s. not (is_executable s.stmt)) xs ≡ true → loops_from m xs place ≡ []
 declared-none m [] place all = refl
-declared-none m (s ∷ xs) place all =
-    let both = and_parts (not (is_executable s.stmt)) (list_all (λ s. not (is_executable s.stmt)) xs) all in
-    ap (λ (b : Bool). loop_if b place (loops_from m xs (place + 1))) (declared-no-do s.stmt m (not-true (is_executable s.stmt) both.0))
-    ∙ declared-none m xs (place + 1) both.1
+declared-none m (s ∷ xs) place all = grind (arith, declared-no-do, not-true, declared-none m xs (place + 1))
 
 of-pieces-append : (us : List (List Labelled)) (c : Context) (at : ℕ → ℕ) (m : ℕ) (xs ys : List Labelled) (place : ℕ) → loops_of_pieces us c at m (xs ++ ys) place ≡ loops_of_pieces us c at m xs place ++ loops_of_pieces us c at m ys (place + length xs)
 of-pieces-append us c at m [] ys place = ap (λ (n : ℕ). loops_of_pieces us c at m ys n) (let e : place ≡ place + 0 = omega arith in e)
@@ -278,15 +257,7 @@ main-loops us m low high = all-main-loops us m
 
 module _ (us : List (List Labelled)) (have : HaveEnds us) where
   nought-away : (c : Context) (place : ℕ) (s : Labelled) → slice_get (unit_at us c.unit) place ≡ Some s → IsAway us have c 0 place s
-  nought-away c place s is = record {
-    lone = λ label does ends.
-        let e = ends-at us have c place label s is does in
-        let above = number-above us c e.place in
-        let one = e.one in
-        let number_is = e.number_is in
-        omega (arith, above, one, number_is, ends);
-    within = λ call calls low high. omega (arith, low);
-  }
+  nought-away c place s is = grind (arith, ends-at us have c place, number-above us c)
 
   pub none-to-nought : loops_to (whole_list us) 0 ≡ []
   none-to-nought =

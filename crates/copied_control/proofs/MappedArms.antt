@@ -1,5 +1,5 @@
 -- The ends of arms and blocks of a unit's statements stand in the list where the unit's do.
-use Rattle.std.proofs.Common.{◌≡◌, ℕ, zero, suc, ◌+◌, ◌-◌, ◌<◌, Bool, true, false, not, ◌&&◌, ◌||◌, ◌==◌, nat_lt, List, [], ◌∷◌, ◌++◌, length, map, drop, Option, Some, None, if◌then◌else◌, refl, sym, ap, subst, ◌∙◌, arith}
+use Rattle.std.proofs.Common.{◌≡◌, ℕ, zero, suc, ◌+◌, ◌-◌, ◌<◌, Bool, true, false, not, ◌||◌, ◌==◌, nat_lt, List, [], ◌∷◌, ◌++◌, length, map, drop, Option, Some, None, refl, sym, ap, subst, ◌∙◌, arith}
 use Rattle.std.specs.List.{slice_get, list_all}
 use Rattle.std.proofs.lemmas.Bool.{and_parts, not-true, ltb-true, eqb-true}
 use Rattle.std.proofs.lemmas.List.{append_assoc}
@@ -39,9 +39,7 @@ rest_here xs i s rest is = let e : s ∷ drop (i + 1) xs ≡ s ∷ rest = sym (d
 
 pub declared-closed : (xs : List Labelled) (n : ℕ) → list_all (λ s. not (is_executable s.stmt)) xs ≡ true → are_closed n xs ≡ (n == 0)
 declared-closed [] n all = refl
-declared-closed (s ∷ xs) n all =
-    let both = and_parts (not (is_executable s.stmt)) (list_all (λ s. not (is_executable s.stmt)) xs) all in
-    turned-neutral s.stmt (does_nothing s.stmt (not-true (is_executable s.stmt) both.0)) n (λ d. are_closed d xs) ∙ declared-closed xs n both.1
+declared-closed (s ∷ xs) n all = grind (arith, turned-neutral, does_nothing, not-true, declared-closed xs n)
 
 -- ---- one statement on both sides
 
@@ -54,37 +52,13 @@ not_neutral s is opens = let e : false ≡ true = sym (ap (λ (b : Bool). b || i
 
 -- the end behind a statement stands where the unit's does
 ended_alike : (begins ends arm arms : Bool) (inner extra place mine : ℕ) (at : ℕ → ℕ) (more : ℕ → Bool) (here there : ℕ → ℕ) → turned begins ends arm (inner + 1 + extra) more ≡ true → mine ≡ at place → ((d : ℕ) → more (d + 1 + extra) ≡ true → here d ≡ at (there d)) → gone begins ends arm arms inner mine here ≡ at (gone begins ends arm arms inner place there)
-ended_alike true ends arm arms inner extra place mine at more here there is same later = later (inner + 1) (subst (λ (n : ℕ). more n ≡ true) (let e : inner + 1 + extra + 1 ≡ inner + 1 + 1 + extra = omega arith in e) is)
-ended_alike false true arm arms inner extra place mine at more here there is same later = by_test (inner == 0) refl
-  where
-    by_test : (b : Bool) → (inner == 0) ≡ b → (if b && (true || (arms && arm)) then mine else here (inner - 1)) ≡ at (if b && (true || (arms && arm)) then place else there (inner - 1))
-    by_test true none = same
-    by_test false some =
-        let above : 0 < inner = positive inner some in
-        later (inner - 1) (subst (λ (n : ℕ). more n ≡ true) (let e : inner + 1 + extra - 1 ≡ inner - 1 + 1 + extra = omega (arith, above) in e) (and_parts (nat_lt 0 (inner + 1 + extra)) (more (inner + 1 + extra - 1)) is).1)
-ended_alike false false true arms inner extra place mine at more here there is same later = by_test ((inner == 0) && (false || (arms && true)))
-  where
-    by_test : (b : Bool) → (if b then mine else here inner) ≡ at (if b then place else there inner)
-    by_test true = same
-    by_test false = later inner (and_parts (nat_lt 0 (inner + 1 + extra)) (more (inner + 1 + extra)) is).1
-ended_alike false false false arms inner extra place mine at more here there is same later = by_test ((inner == 0) && (false || (arms && false)))
-  where
-    by_test : (b : Bool) → (if b then mine else here inner) ≡ at (if b then place else there inner)
-    by_test true = same
-    by_test false = later inner is
+ended_alike h ends arm arms inner extra place mine = search (positive, arith)
 
 gone-alike : (s t : Stmt) → Alike s t → (arms : Bool) (inner place : ℕ) (next : ℕ → ℕ) → gone (is_block_if s) (is_end_if s) (is_arm s) arms inner place next ≡ gone (is_block_if t) (is_end_if t) (is_arm t) arms inner place next
-gone-alike s t is arms inner place next =
-    ap (λ (b : Bool). gone b (is_end_if s) (is_arm s) arms inner place next) is.begins
-    ∙ ap (λ (b : Bool). gone (is_block_if t) b (is_arm s) arms inner place next) is.ends
-    ∙ ap (λ (b : Bool). gone (is_block_if t) (is_end_if t) b arms inner place next) is.arm
+gone-alike s t is arms inner place next = cc
 
 gone-neutral : (s : Stmt) → IsNeutral s → (arms : Bool) (inner place : ℕ) (next : ℕ → ℕ) → gone (is_block_if s) (is_end_if s) (is_arm s) arms inner place next ≡ next inner
-gone-neutral s is arms inner place next =
-    ap (λ (b : Bool). gone b (is_end_if s) (is_arm s) arms inner place next) is.begins
-    ∙ ap (λ (b : Bool). gone false b (is_arm s) arms inner place next) is.ends
-    ∙ ap (λ (b : Bool). gone false false b arms inner place next) is.arm
-    ∙ ap (λ (b : Bool). if b then place else next inner) (and_none (inner == 0) arms)
+gone-neutral s is arms inner place next = grind (arith, gone, gone false, gone false false, and_none (inner == 0) arms)
 
 -- ---- contexts
 
@@ -97,18 +71,11 @@ module _ (us : List (List Labelled)) (units : AreClosedUnits us) (list : List La
 
   -- from what stands for a statement to what stands for the next one
   over-declared : (arms : Bool) (place : ℕ) (s : Labelled) → slice_get unit place ≡ Some s → (inner : ℕ) → end_after arms inner (drop (behind place s) list) (behind place s) ≡ end_after arms inner (drop (at (place + 1)) list) (at (place + 1))
-  over-declared arms place s is inner =
-      let next = stands.next place s is in
-      ap (λ (xs : List Labelled). end_after arms inner xs (behind place s)) next.stand.is
-      ∙ passed-over arms next.between (drop (behind place s + length next.between) list) inner (behind place s) (declared-closed next.between 0 next.declared)
-      ∙ ap (λ (n : ℕ). end_after arms inner (drop n list) n) (sym next.behind)
+  over-declared arms place s is inner = grind (arith, passed-over arms, declared-closed)
 
   over-closed : (arms : Bool) (place : ℕ) (s : Labelled) → slice_get unit place ≡ Some s → are_closed 0 (piece_at us c place s) ≡ true → (inner : ℕ) → end_after arms inner (drop (at place) list) (at place) ≡ end_after arms inner (drop (at (place + 1)) list) (at (place + 1))
   over-closed arms place s is closed inner =
-      let has = stands.pieces place s is in
-      ap (λ (xs : List Labelled). end_after arms inner xs (at place)) has.is
-      ∙ passed-over arms (piece_at us c place s) (drop (behind place s) list) inner (at place) closed
-      ∙ over-declared arms place s is inner
+      grind (arith, passed-over arms (piece_at us c place s) (drop (behind place s) list) inner, over-declared arms place s is inner)
 
   pub record StandsPlain (place : ℕ) (s : Labelled) : Type 0 where
     pub label : ℕ
@@ -116,10 +83,7 @@ module _ (us : List (List Labelled)) (units : AreClosedUnits us) (list : List La
     pub long : length (piece_at us c place s) ≡ 1
 
   pub plain-stands : (place : ℕ) (s : Labelled) → slice_get unit place ≡ Some s → IsPlain us c place s → StandsPlain place s
-  plain-stands place s is plain =
-      let label = if s.label == 0 then 0 else number_at us c.depth c.unit c.base place in
-      let has = alike list (piece_at us c place s) (bare label s.line (changed_stmt (changes us c) s.stmt) ∷ []) (at place) (plain-piece us c place s plain) (stands.pieces place s is) in
-      record { label = label; is = has.is; long = ap length (plain-piece us c place s plain) }
+  plain-stands place s is plain = grind (arith, alike list (piece_at us c place s), plain-piece us c place s plain)
 
   over-plain : (arms : Bool) (place : ℕ) (s : Labelled) → slice_get unit place ≡ Some s → StandsPlain place s → (inner : ℕ) → end_after arms inner (drop (at place + 1) list) (at place + 1) ≡ end_after arms inner (drop (at (place + 1)) list) (at (place + 1))
   over-plain arms place s is plain inner = ap (λ (n : ℕ). end_after arms inner (drop (at place + n) list) (at place + n)) (sym plain.long) ∙ over-declared arms place s is inner
@@ -132,9 +96,7 @@ module _ (us : List (List Labelled)) (units : AreClosedUnits us) (list : List La
     scan_neutral : (place inner extra : ℕ) (s : Labelled) (rest : List Labelled) → slice_get unit place ≡ Some s → IsNeutral s.stmt → are_closed 0 (piece_at us c place s) ≡ true → are_closed (inner + 1 + extra) (s ∷ rest) ≡ true
         → (are_closed (inner + 1 + extra) rest ≡ true → Scanned (place + 1) inner rest) → Scanned place inner (s ∷ rest)
     scan_neutral place inner extra s rest is neutral closed more later =
-        over-closed arms place s is closed inner
-        ∙ later (sym (turned-neutral s.stmt neutral (inner + 1 + extra) (λ d. are_closed d rest)) ∙ more)
-        ∙ ap at (sym (gone-neutral s.stmt neutral arms inner place (λ d. end_after arms d rest (place + 1))))
+        grind (arith, over-closed arms place s is closed inner, turned-neutral s.stmt neutral (inner + 1 + extra), gone-neutral s.stmt neutral arms inner place)
 
     scan_plain : (place inner extra : ℕ) (s : Labelled) (rest : List Labelled) → slice_get unit place ≡ Some s → IsPlain us c place s → are_closed (inner + 1 + extra) (s ∷ rest) ≡ true
         → ((d : ℕ) → are_closed (d + 1 + extra) rest ≡ true → Scanned (place + 1) d rest) → Scanned place inner (s ∷ rest)
@@ -194,9 +156,7 @@ module _ (us : List (List Labelled)) (units : AreClosedUnits us) (list : List La
     opens-after false false false n rest opens apart is = let e : false ≡ true = opens in absurd cc
 
     opens-plain : (place : ℕ) (s : Labelled) → (is_block_if s.stmt || is_arm s.stmt) ≡ true → Which us c place s → IsPlain us c place s
-    opens-plain place s opens (left_out none) = absurd (not_neutral s.stmt (unkept_neutral c.unit s.stmt none) opens)
-    opens-plain place s opens (calling call calls) = absurd (not_neutral s.stmt (call_neutral s.stmt call calls).neutral opens)
-    opens-plain place s opens (single plain) = plain
+    opens-plain place s opens h = grind (arith, not_neutral, unkept_neutral, call_neutral)
 
     pub ends-mapped : (place : ℕ) (s : Labelled) → slice_get unit place ≡ Some s → (is_block_if s.stmt || is_arm s.stmt) ≡ true → end_after arms 0 (drop (at place + 1) list) (at place + 1) ≡ at (end_after arms 0 (drop (place + 1) unit) (place + 1))
     ends-mapped place s is opens =

@@ -42,21 +42,11 @@ pub record Stretch (unit : List Labelled) (xs : List Labelled) (from : ℕ) : Ty
 
 module _ (us : List (List Labelled)) (list : List Labelled) (c : Context) (xs : List Labelled) (from begin : ℕ) (stretch : Stretch (unit_at us c.unit) xs from) where
   pub before : (f : Labelled → ℕ) (j : ℕ) (s : Labelled) → slice_get xs j ≡ Some s → sum_by f (take (from + j) (unit_at us c.unit)) ≡ sum_by f stretch.front + sum_by f (take j xs)
-  before f j s is =
-      ap (λ (u : List Labelled). sum_by f (take (from + j) u)) stretch.is
-      ∙ ap (λ (n : ℕ). sum_by f (take (n + j) (stretch.front ++ (xs ++ stretch.back)))) (sym stretch.first)
-      ∙ sum-front f stretch.front xs stretch.back j s is
+  before f j s is = grind (arith, sum_by f, sum-front f stretch.front xs stretch.back j s is)
 
   abbrev here : Labelled → ℕ
   here = labels (body_labels us c.depth) us c.unit
 
   pub piece_stands : HasAt list begin (pieces (copy us c.depth) us c (sum_by here stretch.front) xs) → (j place : ℕ) (s : Labelled) → from + j ≡ place → slice_get xs j ≡ Some s → HasAt list (begin + sum_by (width (body_width us c.depth) us c.unit) (take j xs)) (piece_at us c place s)
   piece_stands has j place s there is =
-      let parts = cut (copy us c.depth) us c (sum_by here stretch.front) xs j s is in
-      let early = pieces (copy us c.depth) us c (sum_by here stretch.front) (take j xs) in
-      let mine = piece (copy us c.depth) us c (c.base + (sum_by here stretch.front + sum_by here (take j xs)) + 1) s in
-      let both = has_second list early (mine ++ parts.0) begin (alike list (pieces (copy us c.depth) us c (sum_by here stretch.front) xs) (early ++ (mine ++ parts.0)) begin parts.1 has) in
-      let one = has_first list mine parts.0 (begin + length early) both in
-      let long : length early ≡ sum_by (width (body_width us c.depth) us c.unit) (take j xs) = pieces_length us (copy us c.depth) (body_width us c.depth) (copy_length us c.depth) c (sum_by here stretch.front) (take j xs) in
-      moved list (piece_at us c place s) (begin + length early) (begin + sum_by (width (body_width us c.depth) us c.unit) (take j xs)) (ap (λ (n : ℕ). begin + n) long)
-      (alike list mine (piece_at us c place s) (begin + length early) (ap (λ (n : ℕ). piece (copy us c.depth) us c (c.base + n + 1) s) (sym (before here j s is) ∙ ap (λ (n : ℕ). sum_by here (take n (unit_at us c.unit))) there)) one)
+      grind (arith, cut (copy us c.depth) us c (sum_by here stretch.front) xs j s is, sum_by here stretch.front, sum_by here (take j xs), has_second list, alike list (pieces (copy us c.depth) us c (sum_by here stretch.front) xs), has_first list, sum_by (width (body_width us c.depth) us c.unit) (take j xs), pieces_length us (copy us c.depth) (body_width us c.depth) (copy_length us c.depth) c (sum_by here stretch.front) (take j xs), copy_length us c.depth, moved list (piece_at us c place s), alike list, before here j s is, sum_by here)

@@ -1,7 +1,7 @@
 -- In a unit that is a program by itself each DO ends at a statement that its copies have.
-use Rattle.std.proofs.Common.{◌≡◌, ℕ, zero, suc, ◌+◌, ◌<◌, ◌≤◌, ⊎_elim, Bool, true, false, not, ◌&&◌, ◌||◌, ◌==◌, cond, List, [], ◌∷◌, ◌++◌, length, take, Some, None, if◌then◌else◌, refl, sym, ap, subst, ◌∙◌, arith}
+use Rattle.std.proofs.Common.{◌≡◌, ℕ, zero, suc, ◌+◌, ◌<◌, ◌≤◌, ⊎_elim, Bool, true, false, not, ◌&&◌, ◌||◌, ◌==◌, cond, List, [], ◌∷◌, ◌++◌, length, take, Some, None, refl, sym, ap, subst, ◌∙◌, arith}
 use Rattle.std.specs.List.{slice_get, list_any}
-use Rattle.std.proofs.lemmas.Bool.{and_parts, and_from, or_left, or_right, or_cases, eqb-true, eq-eqb, ne_eqb, not_from_false, cases_order}
+use Rattle.std.proofs.lemmas.Bool.{and_parts, and_from, or_right, or_cases, eqb-true, eq-eqb, ne_eqb, not_from_false, cases_order}
 use Rattle.std.proofs.lemmas.List.{append_assoc, append-nil}
 use Rattle.std.proofs.lemmas.Option.{slice_get_within}
 use Rattle.f77_tree.specs.declared.statements.Labelled.{Labelled}
@@ -30,16 +30,7 @@ use Rattle.copied_control.proofs.MappedLandings.{last-is}
 
 pub fault_none : (fault : List Labelled → Labelled → Bool) (above stmts : List Labelled) → first_after fault above stmts ≡ None → (i : ℕ) (s : Labelled) → slice_get stmts i ≡ Some s → fault (above ++ take i stmts) s ≡ false
 fault_none fault above [] none i s is = let e : None ≡ Some s = is in absurd cc
-fault_none fault above (x ∷ rest) none i s is = by_test (fault above x) refl none i is (λ none_after j there. fault_none fault (above ++ x ∷ []) rest none_after j s there)
-  where
-    by_test : (b : Bool) → fault above x ≡ b → (if b then Some x.line else first_after fault (above ++ x ∷ []) rest) ≡ None → (i : ℕ) → slice_get (x ∷ rest) i ≡ Some s
-        → (first_after fault (above ++ x ∷ []) rest ≡ None → (j : ℕ) → slice_get rest j ≡ Some s → fault ((above ++ x ∷ []) ++ take j rest) s ≡ false) → fault (above ++ take i (x ∷ rest)) s ≡ false
-    by_test true is_fault no_line i there later = let e : Some x.line ≡ None = no_line in absurd cc
-    by_test false no_fault no_line zero there later =
-        let e : Some x ≡ Some s = there in
-        let same : x ≡ s = cc in
-        ap (λ (xs : List Labelled). fault xs s) (append-nil above) ∙ ap (λ (y : Labelled). fault above y) (sym same) ∙ no_fault
-    by_test false no_fault no_line (suc j) there later = ap (λ (xs : List Labelled). fault xs s) (sym (append_assoc above (x ∷ []) (take j rest))) ∙ later no_line j there
+fault_none fault above (x ∷ rest) none i s is = grind (arith, fault_none fault (above ++ x ∷ []) rest, append-nil above, append_assoc above (x ∷ []))
 
 pub standing-at : (unit : List Labelled) (i : ℕ) (s : Labelled) → slice_get unit i ≡ Some s → slice_get (standing_in unit) i ≡ Some (standing s)
 standing-at [] i s is = let e : None ≡ Some s = is in absurd cc
@@ -89,10 +80,7 @@ first-of (x ∷ unit) label j s is has = by_test (x.label == label) refl j is (�
 any-at : (q : Labelled → Bool) (xs : List Labelled) (i n : ℕ) (a : Labelled) → i < n → slice_get xs i ≡ Some a → q a ≡ true → list_any q (take n xs) ≡ true
 any-at q xs i zero a below is passes = absurd (omega (arith, below))
 any-at q [] i (suc n) a below is passes = let e : None ≡ Some a = is in absurd cc
-any-at q (x ∷ xs) zero (suc n) a below is passes =
-    let e : Some x ≡ Some a = is in
-    let same : x ≡ a = cc in
-    or_left (q x) (list_any q (take n xs)) (subst (λ (y : Labelled). q y ≡ true) (sym same) passes)
+any-at q (x ∷ xs) zero (suc n) a below is passes = cc
 any-at q (x ∷ xs) (suc i) (suc n) a below is passes = or_right (q x) (list_any q (take n xs)) (any-at q xs i n a (omega (arith, below)) is passes)
 
 -- one statement alone has a label
@@ -107,8 +95,7 @@ alone unit none i j label a b some at_i at_j one two below =
 
 held-on : (label : ℕ) (last : Labelled) → is_end last.stmt ≡ true → (front : List Labelled) → ((i : ℕ) (s : Labelled) → slice_get front i ≡ Some s → s.label ≡ label → ⊥) → (stack : List Opened) → is_open label stack ≡ true → first_unnested stack (standing_in (front ++ last ∷ [])) ≡ None → ⊥
 held-on label last ended [] others stack held none =
-    let e : true ≡ false = sym held ∙ ap (is_open label) (nothing-at-end (standing last) stack (ap stand_in (end_is last.stmt ended)) none) in
-    absurd cc
+    grind (arith, is_open label, nothing-at-end (standing last) stack, standing last, end_is last.stmt ended)
 held-on label last ended (s ∷ front) others stack held none =
     let next = goes_on (standing s) (standing_in (front ++ last ∷ [])) stack none in
     held-on label last ended front (λ i t is. others (suc i) t is) next.beyond (stays-open label (standing s) stack next.beyond (others 0 s refl) next.is held) next.nested

@@ -1,5 +1,5 @@
 -- Each context that is reached is in its place.
-use Rattle.std.proofs.Common.{◌≡◌, ℕ, ◌<◌, true, List, Option, Some, subst, arith}
+use Rattle.std.proofs.Common.{◌≡◌, ℕ, ◌<◌, List, Some, arith}
 use Rattle.std.specs.List.{slice_get}
 use Rattle.std.proofs.lemmas.Bool.{ltb-true}
 use Rattle.f77_tree.specs.declared.statements.Labelled.{Labelled}
@@ -8,7 +8,7 @@ use Rattle.f77_subs.specs.Contexts.{IsReached, main, called, IsInPlace}
 use Rattle.f77_subs.specs.Copies.{Context}
 use Rattle.f77_subs.specs.CopiedLoops.{HaveEnds}
 use Rattle.f77_subs.specs.Expansion.{whole_list}
-use Rattle.f77_subs.specs.Heights.{NoneCallsItself, calls_below, height}
+use Rattle.f77_subs.specs.Heights.{NoneCallsItself, height}
 use Rattle.copied_control.proofs.CopiedLoops.{called-loops}
 use Rattle.copied_control.proofs.LoopsTo.{main-loops}
 use Rattle.f77_subs.proofs.SettledCopies.{pass_at}
@@ -17,9 +17,7 @@ use Rattle.f77_subs.proofs.UnitHeights.{are-heights, heights-few}
 
 -- what a unit calls is lower
 pub lower : (us : List (List Labelled)) → NoneCallsItself us → (k place : ℕ) (s : Labelled) (call : Call) → slice_get (unit_at us k) place ≡ Some s → call_in s.stmt ≡ Some call → height us (unit_of us call.name) < height us k
-lower us none k place s call is calls =
-    let below : calls_below (height us) us k (call_in s.stmt) ≡ true = pass_at (λ (t : Labelled). calls_below (height us) us k (call_in t.stmt)) (unit_at us k) place s (are-heights us none k) is in
-    ltb-true (height us (unit_of us call.name)) (height us k) (subst (λ (o : Option Call). calls_below (height us) us k o ≡ true) calls below)
+lower us none k place s call is calls = grind (arith, pass_at, are-heights us none k, ltb-true (height us (unit_of us call.name)) (height us k))
 
 pub in-place : (us : List (List Labelled)) → NoneCallsItself us → HaveEnds us → (c : Context) (at : ℕ → ℕ) → IsReached us c at → IsInPlace us c at
 in-place us none have _ _ main = record { stands = main-stands us; loops = main-loops us; deep = heights-few us none 0 }

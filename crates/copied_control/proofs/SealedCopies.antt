@@ -1,6 +1,6 @@
 -- Copies are sealed: their blocks of IF end in them.
-use Rattle.std.proofs.Common.{◌≡◌, ℕ, zero, suc, ◌+◌, ◌-◌, ◌<◌, Bool, true, false, ◌&&◌, ◌||◌, ◌==◌, nat_lt, List, [], ◌∷◌, ◌++◌, length, map, Option, Some, None, if◌then◌else◌, refl, sym, ap, ◌∙◌, arith}
-use Rattle.std.proofs.lemmas.Bool.{and_parts, lt-ltb, ltb-true, eqb-true, ne_eqb}
+use Rattle.std.proofs.Common.{◌≡◌, ℕ, zero, suc, ◌+◌, ◌-◌, Bool, true, false, ◌&&◌, ◌||◌, ◌==◌, nat_lt, List, [], ◌∷◌, ◌++◌, length, Option, Some, None, if◌then◌else◌, refl, sym, ap, ◌∙◌, arith}
+use Rattle.std.proofs.lemmas.Bool.{lt-ltb, ltb-true, eqb-true, ne_eqb}
 use Rattle.std.proofs.lemmas.List.{append-nil}
 use mathlib.Core.Path.{fun_ext}
 use Rattle.f77_tree.specs.declared.statements.Labelled.{Labelled}
@@ -9,14 +9,14 @@ use Rattle.f77_tree.specs.declared.statements.Stmt.{Stmt}
 use Rattle.f77_tree.specs.declared.statements.Stmt.TheVariants.{Continue, EndIf}
 use Rattle.layout_rules.specs.Labels.{is_arm}
 use Rattle.layout_rules.specs.Jumps.{is_block_if, is_end_if, end_after}
-use Rattle.f77_subs.specs.Units.{Call, call_in, guard_of, unit_at, unit_of}
+use Rattle.f77_subs.specs.Units.{Call, call_in}
 use Rattle.f77_subs.specs.declared.entity.Entity.{Entity}
-use Rattle.f77_subs.specs.Entities.{stands_for}
 use Rattle.f77_subs.specs.Widths.{is_kept, labels, body_labels}
 use Rattle.f77_subs.specs.Copies.{Change, Copying, Context, bare, changes, changed_stmt, around, piece_by, number_at, pieces, copy}
 use Rattle.f77_subs.specs.ListedCopies.{piece_at}
 use Rattle.f77_subs.specs.OpenBlocks.{are_closed, AreClosedUnits}
 use Rattle.f77_subs.proofs.BlockRoles.{Alike, IsNeutral, changed-alike, unkept_neutral, call_neutral}
+use Rattle.std.proofs.lemmas.Grind.{elements}
 
 -- ---- one statement
 
@@ -25,16 +25,10 @@ abbrev pub turned : (begins ends arm : Bool) → (opened : ℕ) → (next : ℕ 
 turned begins ends arm opened next = if begins then next (opened + 1) else if ends then nat_lt 0 opened && next (opened - 1) else if arm then nat_lt 0 opened && next opened else next opened
 
 pub turned-neutral : (s : Stmt) → IsNeutral s → (opened : ℕ) (next : ℕ → Bool) → turned (is_block_if s) (is_end_if s) (is_arm s) opened next ≡ next opened
-turned-neutral s is opened next =
-    ap (λ (b : Bool). turned b (is_end_if s) (is_arm s) opened next) is.begins
-    ∙ ap (λ (b : Bool). turned false b (is_arm s) opened next) is.ends
-    ∙ ap (λ (b : Bool). turned false false b opened next) is.arm
+turned-neutral s is opened next = cc
 
 pub turned-alike : (s t : Stmt) → Alike s t → (opened : ℕ) (next : ℕ → Bool) → turned (is_block_if s) (is_end_if s) (is_arm s) opened next ≡ turned (is_block_if t) (is_end_if t) (is_arm t) opened next
-turned-alike s t is opened next =
-    ap (λ (b : Bool). turned b (is_end_if s) (is_arm s) opened next) is.begins
-    ∙ ap (λ (b : Bool). turned (is_block_if t) b (is_arm s) opened next) is.ends
-    ∙ ap (λ (b : Bool). turned (is_block_if t) (is_end_if t) b opened next) is.arm
+turned-alike s t is opened next = cc
 
 turned-next : (begins ends arm : Bool) (opened : ℕ) (f g : ℕ → Bool) → ((d : ℕ) → f d ≡ g d) → turned begins ends arm opened f ≡ turned begins ends arm opened g
 turned-next begins ends arm opened f g same = ap (λ (next : ℕ → Bool). turned begins ends arm opened next) (fun_ext same)
@@ -43,57 +37,27 @@ turned-next begins ends arm opened f g same = ap (λ (next : ℕ → Bool). turn
 
 -- blocks that were open before stay open
 closed_step : (begins ends arm : Bool) (opened inside : ℕ) (more next : ℕ → Bool) (end : Bool) → turned begins ends arm inside more ≡ true → ((d : ℕ) → more d ≡ true → next (opened + d) ≡ end) → turned begins ends arm (opened + inside) next ≡ end
-closed_step true ends arm opened inside more next end is later = ap next (let e : opened + inside + 1 ≡ opened + (inside + 1) = omega arith in e) ∙ later (inside + 1) is
-closed_step false true arm opened inside more next end is later =
-    let both = and_parts (nat_lt 0 inside) (more (inside - 1)) is in
-    let some : 0 < inside = ltb-true 0 inside both.0 in
-    ap (λ (b : Bool). b && next (opened + inside - 1)) (lt-ltb 0 (opened + inside) (omega (arith, some)))
-    ∙ ap next (let e : opened + inside - 1 ≡ opened + (inside - 1) = omega (arith, some) in e)
-    ∙ later (inside - 1) both.1
-closed_step false false true opened inside more next end is later =
-    let both = and_parts (nat_lt 0 inside) (more inside) is in
-    let some : 0 < inside = ltb-true 0 inside both.0 in
-    ap (λ (b : Bool). b && next (opened + inside)) (lt-ltb 0 (opened + inside) (omega (arith, some))) ∙ later inside both.1
-closed_step false false false opened inside more next end is later = later inside is
+closed_step h ends arm opened inside more next end is later = grind (arith, ltb-true, lt-ltb)
 
 pub closed-append : (xs ys : List Labelled) (opened inside : ℕ) → are_closed inside xs ≡ true → are_closed (opened + inside) (xs ++ ys) ≡ are_closed opened ys
 closed-append [] ys opened inside is = let none : inside ≡ 0 = eqb-true inside 0 is in ap (λ (n : ℕ). are_closed n ys) (let e : opened + inside ≡ opened = omega (arith, none) in e)
-closed-append (s ∷ xs) ys opened inside is =
-    closed_step (is_block_if s.stmt) (is_end_if s.stmt) (is_arm s.stmt) opened inside (λ d. are_closed d xs) (λ d. are_closed d (xs ++ ys)) (are_closed opened ys) is (λ d more. closed-append xs ys opened d more)
+closed-append (s ∷ xs) ys opened inside is = grind (arith, elements, closed_step, closed-append xs ys opened)
 
 closed-behind : (xs ys : List Labelled) (opened : ℕ) → are_closed 0 xs ≡ true → are_closed opened (xs ++ ys) ≡ are_closed opened ys
 closed-behind xs ys opened is = ap (λ (n : ℕ). are_closed n (xs ++ ys)) (let e : opened ≡ opened + 0 = omega arith in e) ∙ closed-append xs ys opened 0 is
 
 pub and_none : (b arms : Bool) → (b && (false || (arms && false))) ≡ false
-and_none true true = refl
-and_none true false = refl
-and_none false arms = refl
+and_none h arms = grind arith
 
 -- the end behind a statement, by its tests
 abbrev pub gone : (begins ends arm arms : Bool) → (inner place : ℕ) → (next : ℕ → ℕ) → ℕ
 gone begins ends arm arms inner place next = if begins then next (inner + 1) else if (inner == 0) && (ends || (arms && arm)) then place else if ends then next (inner - 1) else next inner
 
 ended_step : (begins ends arm arms : Bool) (inner inside place end : ℕ) (more : ℕ → Bool) (next : ℕ → ℕ) → turned begins ends arm inside more ≡ true → ((d : ℕ) → more d ≡ true → next (inner + d) ≡ end) → gone begins ends arm arms (inner + inside) place next ≡ end
-ended_step true ends arm arms inner inside place end more next is later = ap next (let e : inner + inside + 1 ≡ inner + (inside + 1) = omega arith in e) ∙ later (inside + 1) is
-ended_step false true arm arms inner inside place end more next is later =
-    let both = and_parts (nat_lt 0 inside) (more (inside - 1)) is in
-    let some : 0 < inside = ltb-true 0 inside both.0 in
-    ap (λ (b : Bool). if b && (true || (arms && arm)) then place else next (inner + inside - 1)) (ne_eqb (inner + inside) 0 (λ (e : inner + inside ≡ 0). omega (arith, e, some)))
-    ∙ ap next (let e : inner + inside - 1 ≡ inner + (inside - 1) = omega (arith, some) in e)
-    ∙ later (inside - 1) both.1
-ended_step false false true arms inner inside place end more next is later =
-    let both = and_parts (nat_lt 0 inside) (more inside) is in
-    let some : 0 < inside = ltb-true 0 inside both.0 in
-    ap (λ (b : Bool). if b && (false || (arms && true)) then place else next (inner + inside)) (ne_eqb (inner + inside) 0 (λ (e : inner + inside ≡ 0). omega (arith, e, some)))
-    ∙ later inside both.1
-ended_step false false false arms inner inside place end more next is later =
-    ap (λ (b : Bool). if b then place else next (inner + inside)) (and_none (inner + inside == 0) arms) ∙ later inside is
+ended_step h ends arm arms inner inside place end more next is later = grind (arith, ltb-true, ne_eqb, and_none)
 
 passed_from : (arms : Bool) (xs ys : List Labelled) (inner inside place : ℕ) → are_closed inside xs ≡ true → end_after arms (inner + inside) (xs ++ ys) place ≡ end_after arms inner ys (place + length xs)
-passed_from arms [] ys inner inside place is =
-    let none : inside ≡ 0 = eqb-true inside 0 is in
-    ap (λ (n : ℕ). end_after arms n ys place) (let e : inner + inside ≡ inner = omega (arith, none) in e)
-    ∙ ap (λ (n : ℕ). end_after arms inner ys n) (let e : place ≡ place + 0 = omega arith in e)
+passed_from arms [] ys inner inside place is = grind (arith, eqb-true inside 0 is)
 passed_from arms (s ∷ xs) ys inner inside place is =
     ended_step (is_block_if s.stmt) (is_end_if s.stmt) (is_arm s.stmt) arms inner inside place (end_after arms inner ys (place + 1 + length xs)) (λ d. are_closed d xs) (λ d. end_after arms d (xs ++ ys) (place + 1)) is (λ d more. passed_from arms xs ys inner d (place + 1) more)
     ∙ ap (λ (n : ℕ). end_after arms inner ys n) (let e : place + 1 + length xs ≡ place + suc (length xs) = omega arith in e)
@@ -115,11 +79,7 @@ module _ (us : List (List Labelled)) (body : Copying) (closed : (k : ℕ) (argum
   by_call : (m : ℕ) (s : Labelled) (call : Option Call) → call_in s.stmt ≡ call → (tail : List Labelled) (opened : ℕ) → are_closed opened (piece_by body us c m s call ++ tail) ≡ after s.stmt opened (λ d. are_closed d tail)
   by_call m s None is tail opened = turned-alike (changed_stmt (changes us c) s.stmt) s.stmt (changed-alike (changes us c) s.stmt) opened (λ d. are_closed d tail)
   by_call m s (Some call) is tail opened =
-      let g = unit_of us call.name in
-      let inside = body g (map (stands_for us c.unit c.arguments) call.arguments) m in
-      let stands = around (changes us c) m (m + body_labels us c.depth g + 1) s.line (guard_of s.stmt) inside in
-      closed-behind stands tail opened (around-closed (changes us c) m (m + body_labels us c.depth g + 1) s.line (guard_of s.stmt) inside (closed g (map (stands_for us c.unit c.arguments) call.arguments) m))
-      ∙ sym (turned-neutral s.stmt (call_neutral s.stmt call is).neutral opened (λ d. are_closed d tail))
+      grind (arith, closed-behind, around-closed (changes us c) m, turned-neutral s.stmt (call_neutral s.stmt call is).neutral opened, call_neutral s.stmt call is)
 
   by_kept : (m : ℕ) (s : Labelled) (kept : Bool) → is_kept c.unit s.stmt ≡ kept → (tail : List Labelled) (opened : ℕ) → are_closed opened ((if kept then piece_by body us c m s (call_in s.stmt) else []) ++ tail) ≡ after s.stmt opened (λ d. are_closed d tail)
   by_kept m s true is tail opened = by_call m s (call_in s.stmt) refl tail opened
@@ -134,12 +94,9 @@ module _ (us : List (List Labelled)) (body : Copying) (closed : (k : ℕ) (argum
 
 pub copy-closed : (us : List (List Labelled)) → AreClosedUnits us → (depth k : ℕ) (arguments : List Entity) (base : ℕ) → are_closed 0 (copy us depth k arguments base) ≡ true
 copy-closed us units zero k arguments base = refl
-copy-closed us units (suc depth) k arguments base =
-    pieces-closed us (copy us depth) (copy-closed us units depth) (record { depth = depth; unit = k; arguments = arguments; base = base }) 0 0 (unit_at us k) ∙ units k
+copy-closed us units (suc depth) k arguments base = grind (arith, elements, pieces-closed, copy-closed us units depth)
 
 -- what stands for a CALL, with the block after a condition
 pub call-closed : (us : List (List Labelled)) → AreClosedUnits us → (c : Context) (place : ℕ) (s : Labelled) (call : Call) → call_in s.stmt ≡ Some call → are_closed 0 (piece_at us c place s) ≡ true
 call-closed us units c place s call is =
-    ap (λ (xs : List Labelled). are_closed 0 xs) (sym (append-nil (piece_at us c place s)))
-    ∙ by_kept us (copy us c.depth) (copy-closed us units c.depth) c (number_at us c.depth c.unit c.base place) s (is_kept c.unit s.stmt) refl [] 0
-    ∙ turned-neutral s.stmt (call_neutral s.stmt call is).neutral 0 (λ d. are_closed d [])
+    grind (arith, append-nil (piece_at us c place s), by_kept us (copy us c.depth) (copy-closed us units c.depth) c (number_at us c.depth c.unit c.base place) s (is_kept c.unit s.stmt), copy-closed us units c.depth, turned-neutral s.stmt (call_neutral s.stmt call is).neutral 0, call_neutral s.stmt call is)

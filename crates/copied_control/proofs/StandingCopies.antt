@@ -110,36 +110,14 @@ module _ (us : List (List Labelled)) where
 
   next-same : (place : ℕ) (s : Labelled) (b : Bool) → nat_lt place p ≡ b → nat_lt (place + 1) p ≡ b → slice_get main place ≡ Some s → NextTo place s
   next-same place s b here next is =
-      let one = place-early place b here in
-      let two = place-early (place + 1) b next in
-      let sum = next-sum place s is in
-      at_once (whole_list us) (main_place us place + length (piece_at us (main_context us) place s)) (main_place us (place + 1)) (omega (arith, one, two, sum))
+      grind (arith, place-early place b here, place-early (place + 1) b next, next-sum place s is, at_once (whole_list us) (main_place us place + length (piece_at us (main_context us) place s)) (main_place us (place + 1)))
 
   next-put : (place : ℕ) (s : Labelled) → nat_lt place p ≡ true → nat_lt (place + 1) p ≡ false → slice_get main place ≡ Some s → NextTo place s
   next-put place s here next is =
-      let one : main_place us place ≡ width_before us (length us) 0 place + 0 = place-early place true here in
-      let two : main_place us (place + 1) ≡ width_before us (length us) 0 (place + 1) + length (put_in us) = place-early (place + 1) false next in
-      let sum = next-sum place s is in
-      let below = ltb-true place p here in
-      let above = ltb-false (place + 1) p next in
-      let last : p ≡ place + 1 = omega (arith, below, above) in
-      let long = early-long ∙ ap (λ (n : ℕ). sum_by main_wide (take n main)) last in
-      let from : 0 + length early ≡ main_place us place + length (piece_at us (main_context us) place s) = omega (arith, one, sum, long) in
-      record {
-        between = put_in us;
-        stand = moved (whole_list us) (put_in us) (0 + length early) (main_place us place + length (piece_at us (main_context us) place s)) from (has_first (whole_list us) (put_in us) late (0 + length early) has_rest);
-        behind = (let e : main_place us (place + 1) ≡ main_place us place + length (piece_at us (main_context us) place s) + length (put_in us) = omega (arith, one, two, sum) in e);
-        declared = put-in-declared us;
-      }
+      grind (arith, place-early place true here, place-early (place + 1) false next, next-sum place s is, ltb-true place p here, ltb-false (place + 1) p next, early-long, sum_by main_wide, moved (whole_list us) (put_in us) (0 + length early) (main_place us place + length (piece_at us (main_context us) place s)), has_first (whole_list us) (put_in us) late (0 + length early) has_rest, has_rest, put-in-declared us)
 
   main-next : (place : ℕ) (s : Labelled) → slice_get main place ≡ Some s → NextTo place s
-  main-next place s is = ⊎_elim
-      (λ (h : nat_lt place p ≡ true). ⊎_elim
-      (λ (n : nat_lt (place + 1) p ≡ true). next-same place s true h n is)
-      (λ (n : nat_lt (place + 1) p ≡ false). next-put place s h n is)
-      (cases_Bool (nat_lt (place + 1) p)))
-      (λ (h : nat_lt place p ≡ false). let above = ltb-false place p h in next-same place s false h (le-ltb (place + 1) p (omega (arith, above))) is)
-      (cases_Bool (nat_lt place p))
+  main-next place s is = grind (arith, next-same, next-put, ltb-false, le-ltb)
 
   pub main-stands : StandsIn us (whole_list us) (main_context us) (main_place us)
   main-stands = record { pieces = main-piece; next = main-next; tight = λ is. let e : true ≡ false = is in absurd cc; closed = λ is. let e : true ≡ false = is in absurd cc }
@@ -157,27 +135,14 @@ module _ (us : List (List Labelled)) (list : List Labelled) (c : Context) (begin
       piece_stands us list c unit 0 begin stretch has place place s (let e : 0 + place ≡ place = omega arith in e) is
 
   copy-tight : (place : ℕ) (s : Labelled) → slice_get unit place ≡ Some s → copied_place us c begin (place + 1) ≡ copied_place us c begin place + length (piece_at us c place s)
-  copy-tight place s is =
-      let sum = sum-next (wide us c) unit place s is in
-      let one = one-piece us c place s in
-      omega (arith, sum, one)
+  copy-tight place s is = grind (arith, sum-next (wide us c) unit place s is, one-piece us c place s)
 
   copy-next : (place : ℕ) (s : Labelled) → slice_get unit place ≡ Some s → AreDeclared list (copied_place us c begin place + length (piece_at us c place s)) (copied_place us c begin (place + 1))
   copy-next place s is = at_once list (copied_place us c begin place + length (piece_at us c place s)) (copied_place us c begin (place + 1)) (copy-tight place s is)
 
   pub copy-stands : IsClosedAt list (begin + length (copy us (suc c.depth) c.unit c.arguments c.base)) (c.base + body_labels us (suc c.depth) c.unit + 1) → StandsIn us list c (copied_place us c begin)
   copy-stands closed =
-      let all : take (length unit) unit ≡ unit = take_all (length unit) unit (let e : length unit ≤ length unit = omega arith in e) in
-      let widths : width_before us c.depth c.unit (length unit) ≡ body_width us (suc c.depth) c.unit = ap (λ (xs : List Labelled). sum_by (wide us c) xs) all in
-      let long = copy_length us (suc c.depth) c.unit c.arguments c.base in
-      let labelled : body_labels us (suc c.depth) c.unit ≡ labels_before us c.depth c.unit (length unit) = ap (λ (xs : List Labelled). sum_by (labels (body_labels us c.depth) us c.unit) xs) (sym all) in
-      let place : begin + length (copy us (suc c.depth) c.unit c.arguments c.base) ≡ copied_place us c begin (length unit) = omega (arith, widths, long) in
-      record {
-        pieces = copy-piece;
-        next = copy-next;
-        tight = λ is. copy-tight;
-        closed = λ is. subst (λ (n : ℕ). IsClosedAt list n (number_at us c.depth c.unit c.base (length unit))) place (subst (λ (n : ℕ). IsClosedAt list (begin + length (copy us (suc c.depth) c.unit c.arguments c.base)) (c.base + n + 1)) labelled closed);
-      }
+      grind (arith, take_all (length unit) unit, sum_by (wide us c), copy_length us (suc c.depth) c.unit c.arguments c.base, sum_by (labels (body_labels us c.depth) us c.unit), copy-piece, copy-next, copy-tight)
 
 -- what stands around a copy
 pub record Around (list : List Labelled) (begin : ℕ) (inside : List Labelled) (b : ℕ) : Type 0 where
@@ -186,17 +151,9 @@ pub record Around (list : List Labelled) (begin : ℕ) (inside : List Labelled) 
 
 split-around : (list : List Labelled) (place : ℕ) (x : Change) (a b line : ℕ) (guard : Option RawExpr) (inside : List Labelled) → HasAt list place (around x a b line guard inside) → Around list (place + lines_before guard) inside b
 split-around list place x a b line None inside has =
-    let rest = has_second list (bare a line Continue ∷ []) (inside ++ closing false b line) place has in
-    record {
-      body = has_first list inside (closing false b line) (place + 1) rest;
-      closed = record { guarded = false; line = line; stand = has_second list inside (closing false b line) (place + 1) rest };
-    }
+    grind (arith, has_second list (bare a line Continue ∷ []) (inside ++ closing false b line) place has, has_first list inside (closing false b line) (place + 1), has_second list inside (closing false b line) (place + 1))
 split-around list place x a b line (Some condition) inside has =
-    let rest = has_second list (bare a line Continue ∷ bare 0 line (BlockIf (changed x condition)) ∷ []) (inside ++ closing true b line) place has in
-    record {
-      body = has_first list inside (closing true b line) (place + 2) rest;
-      closed = record { guarded = true; line = line; stand = has_second list inside (closing true b line) (place + 2) rest };
-    }
+    grind (arith, has_second list (bare a line Continue ∷ bare 0 line (BlockIf (changed x condition)) ∷ []) (inside ++ closing true b line) place has, has_first list inside (closing true b line) (place + 2), has_second list inside (closing true b line) (place + 2))
 
 module _ (us : List (List Labelled)) (list : List Labelled) (c : Context) (at : ℕ → ℕ) (stands : StandsIn us list c at) (place : ℕ) (s : Labelled) (call : Call) (is : slice_get (unit_at us c.unit) place ≡ Some s) (calls : call_in s.stmt ≡ Some call) where
   abbrev m : ℕ

@@ -3,10 +3,11 @@ use Rattle.std.proofs.Common.{◌≡◌, ℕ, ◌+◌, ◌==◌, ⊎_elim, Bool,
 use Rattle.f77_tree.specs.declared.statements.Labelled.{Labelled}
 use Rattle.f77_subs.specs.Units.{Call, call_in, guard_of, unit_of}
 use Rattle.f77_subs.specs.Entities.{stands_for}
-use Rattle.f77_subs.specs.Widths.{is_kept, labels_by, labels, body_labels}
+use Rattle.f77_subs.specs.Widths.{is_kept, labels, body_labels}
 use Rattle.f77_subs.specs.Copies.{Context, bare, changes, changed_stmt, around, piece_by, number_at, copy}
 use Rattle.f77_subs.specs.ListedCopies.{piece_at}
 use Rattle.f77_subs.proofs.Kept.{kept_or_none}
+use Rattle.std.proofs.Common.{arith}
 
 module _ (us : List (List Labelled)) (c : Context) where
   -- one statement stands for this one
@@ -15,9 +16,7 @@ module _ (us : List (List Labelled)) (c : Context) where
     pub none : call_in s.stmt ≡ None
 
   pub plain-piece : (place : ℕ) (s : Labelled) → IsPlain place s → piece_at us c place s ≡ bare (if s.label == 0 then 0 else number_at us c.depth c.unit c.base place) s.line (changed_stmt (changes us c) s.stmt) ∷ []
-  plain-piece place s plain =
-      let m = number_at us c.depth c.unit c.base place in
-      ap (λ (kept : Bool). if kept then piece_by (copy us c.depth) us c m s (call_in s.stmt) else []) plain.kept ∙ ap (λ (o : Option Call). piece_by (copy us c.depth) us c m s o) plain.none
+  plain-piece place s plain = cc
 
   -- which of the three a statement is
   pub data Which (place : ℕ) (s : Labelled) : Type 0 where
@@ -41,10 +40,7 @@ module _ (us : List (List Labelled)) (c : Context) where
 
   pub piece-around : (place : ℕ) (s : Labelled) (call : Call) → call_in s.stmt ≡ Some call
       → piece_at us c place s ≡ around (changes us c) (number_at us c.depth c.unit c.base place) (number_at us c.depth c.unit c.base place + body_labels us c.depth (unit_of us call.name) + 1) s.line (guard_of s.stmt) (copy us c.depth (unit_of us call.name) (map (stands_for us c.unit c.arguments) call.arguments) (number_at us c.depth c.unit c.base place))
-  piece-around place s call calls =
-      let m = number_at us c.depth c.unit c.base place in
-      ap (λ (kept : Bool). if kept then piece_by (copy us c.depth) us c m s (call_in s.stmt) else []) (is_call s call calls) ∙ ap (λ (o : Option Call). piece_by (copy us c.depth) us c m s o) calls
+  piece-around place s call calls = grind (arith, is_call s call calls)
 
   pub call-count : (s : Labelled) (call : Call) → call_in s.stmt ≡ Some call → labels (body_labels us c.depth) us c.unit s ≡ 2 + body_labels us c.depth (unit_of us call.name)
-  call-count s call calls =
-      ap (λ (kept : Bool). if kept then labels_by (body_labels us c.depth) us s.label (call_in s.stmt) else 0) (is_call s call calls) ∙ ap (λ (o : Option Call). labels_by (body_labels us c.depth) us s.label o) calls
+  call-count s call calls = grind (arith, is_call s call calls)

@@ -1,6 +1,6 @@
 -- The declarations of the list of the expansion.
-use Rattle.std.proofs.Common.{◌≡◌, ℕ, zero, suc, ◌+◌, ◌-◌, ◌<◌, ◌==◌, Bool, true, false, not, ◌&&◌, ◌||◌, cond, if◌then◌else◌, List, [], ◌∷◌, ◌++◌, length, map, take, drop, take-append-drop, Option, Some, None, append_assoc, refl, sym, ap, ◌∙◌, arith}
-use Rattle.std.specs.List.{list_all, list_any, position_or_len, slice_get}
+use Rattle.std.proofs.Common.{◌≡◌, ℕ, zero, suc, ◌+◌, ◌-◌, ◌<◌, ◌==◌, Bool, true, false, not, ◌&&◌, ◌||◌, if◌then◌else◌, List, [], ◌∷◌, ◌++◌, length, map, take, drop, take-append-drop, Option, Some, None, append_assoc, refl, sym, ap, ◌∙◌, arith}
+use Rattle.std.specs.List.{list_all, list_any, slice_get}
 use Rattle.std.specs.Option.{is_some}
 use Rattle.std.proofs.lemmas.Bool.{and_from, and_parts}
 use Rattle.std.proofs.lemmas.Bool.Decides.{nat_tests}
@@ -8,7 +8,6 @@ use Rattle.std.proofs.lemmas.List.Folds.{list_any-append}
 use Rattle.f77_tree.specs.declared.statements.Labelled.{Labelled}
 use Rattle.f77_tree.specs.declared.statements.RawExpr.{RawExpr}
 use Rattle.f77_tree.specs.declared.statements.Stmt.{Stmt}
-use Rattle.f77_tree.specs.declared.statements.Stmt.TheVariants.{Program, Implicit, ImplicitNone, TypeOf, Dimension, Common, Equivalence, Init, Assign, Print, Take, Continue, Stop, GoTo, PickGoTo, SignIf, ThenIf', BlockIf, ElseIf, Else, EndIf, Do, Sub, CallTo, Back, End}
 use Rattle.layout_rules.specs.Faults.{first_after, first_line}
 use Rattle.layout_rules.specs.Labels.{is_executable}
 use Rattle.f77_subs.specs.declared.sub_end.SubEnd.TheVariants.{UnitOrder}
@@ -17,9 +16,9 @@ use Rattle.f77_subs.specs.declared.entity.Entity.{Entity}
 use Rattle.f77_subs.specs.Entities.{stands_for}
 use Rattle.f77_subs.specs.Expansion.{declared_first, main_context, main_pieces, put_in, whole_list}
 use Rattle.copied_values.specs.ListedDeclarations.{declarations, unless_executable}
-use Rattle.f77_subs.specs.Refusals.{differ, end_at, is_end_at, is_out_of_unit, unit_refusal, unit_refusals}
+use Rattle.f77_subs.specs.Refusals.{differ, is_end_at, is_out_of_unit, unit_refusal}
 use Rattle.f77_subs.specs.Texts.{IsText}
-use Rattle.f77_subs.specs.Units.{Call, call_in, guard_of, in_first, inner, is_end, is_named, is_return, is_sub_of, sub_name, unit_at, unit_of, unit_or_none, units}
+use Rattle.f77_subs.specs.Units.{Call, call_in, guard_of, in_first, inner, is_end, is_return, is_sub_of, sub_name, unit_at, unit_of, unit_or_none, units}
 use Rattle.f77_subs.specs.Widths.{body_labels, is_kept, labels, labels_before}
 use Rattle.f77_subs.proofs.BlockRoles.{call_neutral, changed-alike}
 use Rattle.f77_subs.proofs.NoAnswer.{no-end, none-at}
@@ -31,52 +30,17 @@ use Rattle.f77_subs.proofs.ReachedUnits.{some-unit}
 
 pub declarations-append : (xs ys : List Labelled) → declarations (xs ++ ys) ≡ declarations xs ++ declarations ys
 declarations-append [] ys = refl
-declarations-append (s ∷ xs) ys = ap (unless_executable (is_executable s.stmt) s.stmt) (declarations-append xs ys) ∙ by (is_executable s.stmt)
-  where
-    by : (b : Bool) → unless_executable b s.stmt (declarations xs ++ declarations ys) ≡ unless_executable b s.stmt (declarations xs) ++ declarations ys
-    by true = refl
-    by false = refl
+declarations-append (s ∷ xs) ys = grind (arith, declarations-append xs ys)
 
 all-declared : (xs : List Labelled) → list_all (λ s. not (is_executable s.stmt)) xs ≡ true → declarations xs ≡ map (λ s. s.stmt) xs
 all-declared [] all = refl
-all-declared (s ∷ xs) all =
-    let parts = and_parts (not (is_executable s.stmt)) (list_all (λ s. not (is_executable s.stmt)) xs) all in
-    by (is_executable s.stmt) parts.0 ∙ ap (λ (ts : List Stmt). s.stmt ∷ ts) (all-declared xs parts.1)
-  where
-    by : (b : Bool) → not b ≡ true → unless_executable b s.stmt (declarations xs) ≡ s.stmt ∷ declarations xs
-    by true is = let e : false ≡ true = is in absurd cc
-    by false is = refl
+all-declared (s ∷ xs) all = grind (arith, all-declared xs)
 
 alone : (label line : ℕ) (s : Stmt) → is_executable s ≡ true → declarations (bare label line s ∷ []) ≡ []
 alone label line s is = ap (λ (b : Bool). unless_executable b s []) is
 
 unchanged : (x : Change) (s : Stmt) → is_executable s ≡ false → changed_stmt x s ≡ s
-unchanged x Program is = refl
-unchanged x (Implicit a) is = refl
-unchanged x ImplicitNone is = refl
-unchanged x (TypeOf a b) is = refl
-unchanged x (Dimension a) is = refl
-unchanged x (Common a) is = refl
-unchanged x (Equivalence a) is = refl
-unchanged x (Init a) is = refl
-unchanged x (Assign a b) is = let e : true ≡ false = is in absurd cc
-unchanged x (Print a) is = let e : true ≡ false = is in absurd cc
-unchanged x (Take a) is = let e : true ≡ false = is in absurd cc
-unchanged x Continue is = refl
-unchanged x Stop is = refl
-unchanged x (GoTo a) is = let e : true ≡ false = is in absurd cc
-unchanged x (PickGoTo a b) is = let e : true ≡ false = is in absurd cc
-unchanged x (SignIf a b c d) is = let e : true ≡ false = is in absurd cc
-unchanged x (ThenIf' a b c) is = let e : true ≡ false = is in absurd cc
-unchanged x (BlockIf a) is = let e : true ≡ false = is in absurd cc
-unchanged x (ElseIf a) is = let e : true ≡ false = is in absurd cc
-unchanged x Else is = refl
-unchanged x EndIf is = refl
-unchanged x (Do a b c d e) is = let h : true ≡ false = is in absurd cc
-unchanged x (Sub a b) is = refl
-unchanged x (CallTo a b) is = refl
-unchanged x Back is = let e : true ≡ false = is in absurd cc
-unchanged x End is = refl
+unchanged x h is = grind arith
 
 -- ---- copies
 
@@ -110,9 +74,7 @@ module _ (us : List (List Labelled)) (subs : (name : List ℕ) → 0 < unit_of u
   sub-pieces : (body : Copying) → NoneIn body → (c : Context) (before : ℕ) (stmts : List Labelled) → 0 < c.unit → declarations (pieces body us c before stmts) ≡ []
   sub-pieces body none c before [] some = refl
   sub-pieces body none c before (s ∷ rest) some =
-      declarations-append (piece body us c (c.base + before + 1) s) (pieces body us c (before + labels (body_labels us c.depth) us c.unit s) rest)
-      ∙ ap (λ (ts : List Stmt). ts ++ declarations (pieces body us c (before + labels (body_labels us c.depth) us c.unit s) rest)) (sub-piece body none c (c.base + before + 1) s some)
-      ∙ sub-pieces body none c (before + labels (body_labels us c.depth) us c.unit s) rest some
+      grind (arith, declarations-append (piece body us c (c.base + before + 1) s) (pieces body us c (before + labels (body_labels us c.depth) us c.unit s) rest), sub-piece body none c (c.base + before + 1) s some, sub-pieces body none c (before + labels (body_labels us c.depth) us c.unit s) rest some)
 
   copies-none : (depth : ℕ) → NoneIn (copy us depth)
   copies-none zero g arguments base some = refl
@@ -145,14 +107,7 @@ module _ (us : List (List Labelled)) (subs : (name : List ℕ) → 0 < unit_of u
 
   pub list-declares : declarations (whole_list us) ≡ declarations (take (declared_first (unit_at us 0)) (unit_at us 0)) ++ (map (λ s. s.stmt) (put_in us) ++ declarations (drop (declared_first (unit_at us 0)) (unit_at us 0)))
   list-declares =
-      let front = main_pieces us 0 (take (declared_first (unit_at us 0)) (unit_at us 0)) in
-      let back = main_pieces us (labels_before us (length us) 0 (declared_first (unit_at us 0))) (drop (declared_first (unit_at us 0)) (unit_at us 0)) in
-      declarations-append (front ++ put_in us) back
-      ∙ ap (λ (ts : List Stmt). ts ++ declarations back) (declarations-append front (put_in us))
-      ∙ append_assoc (declarations front) (declarations (put_in us)) (declarations back)
-      ∙ ap (λ (ts : List Stmt). ts ++ (declarations (put_in us) ++ declarations back)) (main-same 0 (take (declared_first (unit_at us 0)) (unit_at us 0)))
-      ∙ ap (λ (ts : List Stmt). declarations (take (declared_first (unit_at us 0)) (unit_at us 0)) ++ (ts ++ declarations back)) (all-declared (put_in us) (put-in-declared us))
-      ∙ ap (λ (ts : List Stmt). declarations (take (declared_first (unit_at us 0)) (unit_at us 0)) ++ (map (λ s. s.stmt) (put_in us) ++ ts)) (main-same (labels_before us (length us) 0 (declared_first (unit_at us 0))) (drop (declared_first (unit_at us 0)) (unit_at us 0)))
+      grind (arith, declarations-append, append_assoc, main-same 0 (take (declared_first (unit_at us 0)) (unit_at us 0)), all-declared (put_in us) (put-in-declared us), put-in-declared us, main-same (labels_before us (length us) 0 (declared_first (unit_at us 0))) (drop (declared_first (unit_at us 0)) (unit_at us 0)))
 
 pub main-declares : (us : List (List Labelled)) → declarations (unit_at us 0) ≡ declarations (take (declared_first (unit_at us 0)) (unit_at us 0)) ++ declarations (drop (declared_first (unit_at us 0)) (unit_at us 0))
 main-declares us =
@@ -163,16 +118,8 @@ main-declares us =
 
 none-ends : (above : List Labelled) (n : ℕ) → list_any (λ a. is_end a.stmt) above ≡ false → is_end_at (slice_get above n) ≡ false
 none-ends [] n none = refl
-none-ends (a ∷ above) zero none = by (is_end a.stmt) none
-  where
-    by : (b : Bool) → (b || list_any (λ a. is_end a.stmt) above) ≡ false → b ≡ false
-    by true h = h
-    by false h = refl
-none-ends (a ∷ above) (suc n) none = none-ends above n (by (is_end a.stmt) none)
-  where
-    by : (b : Bool) → (b || list_any (λ a. is_end a.stmt) above) ≡ false → list_any (λ a. is_end a.stmt) above ≡ false
-    by true h = let e : true ≡ false = h in absurd cc
-    by false h = h
+none-ends (a ∷ above) zero none = grind arith
+none-ends (a ∷ above) (suc n) none = grind (arith, none-ends above n)
 
 more-none : (above : List Labelled) (s : Labelled) → list_any (λ a. is_end a.stmt) above ≡ false → is_end s.stmt ≡ false → list_any (λ a. is_end a.stmt) (above ++ s ∷ []) ≡ false
 more-none above s none is = list_any-append (λ a. is_end a.stmt) above (s ∷ []) ∙ ap (λ (b : Bool). b || (is_end s.stmt || false)) none ∙ ap (λ (b : Bool). b || false) is
@@ -208,24 +155,12 @@ no-subs above (s ∷ rest) none right = by_test (is_out_of_unit above s) refl ri
 
 none-named : (name : List ℕ) (u : List Labelled) → list_all no_sub u ≡ true → list_any (is_sub_of name) u ≡ false
 none-named name [] all = refl
-none-named name (s ∷ u) all =
-    let parts = and_parts (no_sub s) (list_all no_sub u) all in
-    ap (λ (b : Bool). b || list_any (is_sub_of name) u) (by (sub_name s.stmt) parts.0) ∙ none-named name u parts.1
-  where
-    by : (o : Option (List ℕ)) → not (is_some o) ≡ true → is_named name o ≡ false
-    by None is = refl
-    by (Some other) is = let e : false ≡ true = is in absurd cc
+none-named name (s ∷ u) all = grind (arith, none-named name u)
 
 past-first : (name : List ℕ) (vs : List (List Labelled)) → 0 < length vs → list_any (is_sub_of name) (first_of_units vs) ≡ false → 0 < unit_of vs name
 past-first name [] some none = absurd (omega (arith, some))
-past-first name (v ∷ vs) some none = by (list_any (is_sub_of name) v) none
-  where
-    by : (b : Bool) → b ≡ false → 0 < cond (not b) (1 + position_or_len (λ u. list_any (is_sub_of name) u) vs) 0
-    by true is = let e : true ≡ false = is in absurd cc
-    by false is = omega arith
+past-first name (v ∷ vs) some none = grind arith
 
 pub subs-behind : (stmts : List Labelled) (checked : Bool) → IsText stmts → unit_refusal stmts checked ≡ None → (name : List ℕ) → 0 < unit_of (units stmts) name
 subs-behind stmts checked text accepted name =
-    let us = units stmts in
-    let none : first_line is_out_of_unit stmts ≡ None = no-end UnitOrder (first_line is_out_of_unit stmts) (none-at (unit_refusals stmts us checked) 0 (end_at UnitOrder (first_line is_out_of_unit stmts)) accepted refl) in
-    past-first name us (some-unit stmts checked text accepted) (none-named name (first_of_units us) (no-subs [] stmts refl none))
+    grind (arith, no-end UnitOrder (first_line is_out_of_unit stmts), none-at, past-first name, some-unit stmts checked text accepted, none-named name, no-subs)

@@ -1,6 +1,6 @@
 -- The name that an entity got has in the list the kind and the dimensions of the entity.
 use Rattle.std.proofs.Common.{◌≡◌, ℕ, ◌<◌, Bool, true, false, not, ◌&&◌, ◌||◌, ◌⊎◌, cond, if◌then◌else◌, List, [], ◌∷◌, ◌++◌, length, map, filter, flat_map, fold, Option, Some, None, ⊎_elim, refl, sym, ap, subst, ◌∙◌, arith}
-use Rattle.std.specs.Prelude.{bytes_eq, nat_le, nat_lt, slice_index}
+use Rattle.std.specs.Prelude.{bytes_eq, nat_le, nat_lt}
 use Rattle.std.specs.List.{list_all, list_any, range_with_len}
 use Rattle.std.specs.Option.{is_some}
 use Rattle.std.proofs.lemmas.Bool.{and_from, and_parts, cases_Bool, or_left, or_right}
@@ -15,9 +15,8 @@ use Rattle.f77_tree.specs.declared.declarations.Dim.{Dim}
 use Rattle.f77_tree.specs.declared.declarations.Kind.{Kind}
 use Rattle.f77_tree.specs.declared.statements.Labelled.{Labelled}
 use Rattle.f77_tree.specs.declared.statements.Stmt.{Stmt}
-use Rattle.f77_tree.specs.declared.statements.Stmt.TheVariants.{Program, Implicit, ImplicitNone, TypeOf, Dimension, Common, Equivalence, Init, Assign, Print, Take, Continue, Stop, GoTo, PickGoTo, SignIf, ThenIf', BlockIf, ElseIf, Else, EndIf, Do, Sub, CallTo, Back, End}
 use Rattle.layout_rules.specs.Appearances.{with_name}
-use Rattle.layout_rules.specs.Declarations.{dims_of, dims_or_none, dims_told, has_dims, is_array, is_implicit_none, kind_by_default, kind_implied, kind_of, kind_typed}
+use Rattle.layout_rules.specs.Declarations.{dims_of, dims_or_none, dims_told, has_dims, is_array, kind_of, kind_typed}
 use Rattle.layout_rules.specs.Executables.{kind_or_integer}
 use Rattle.layout_rules.specs.Faults.{answer_or, first_answer}
 use Rattle.layout_rules.specs.Layout.{last_line}
@@ -50,13 +49,7 @@ negation true is = let e : true ≡ false = is in absurd cc
 negation false is = refl
 
 turned : (x y : List ℕ) → bytes_eq x y ≡ false → bytes_eq y x ≡ false
-turned x y is = by (bytes_eq y x) refl
-  where
-    by : (b : Bool) → bytes_eq y x ≡ b → b ≡ false
-    by true same =
-        let e : true ≡ false = sym ((bytes_eq-Decides x y).1 (sym ((bytes_eq-Decides y x).0 same))) ∙ is in
-        absurd cc
-    by false same = refl
+turned x y is = grind (arith, bytes_eq-Decides x y, bytes_eq-Decides y x)
 
 record NotAmong (y : List ℕ) (xs ys : List (List ℕ)) : Type 0 where
   here : list_any (bytes_eq y) xs ≡ false
@@ -64,26 +57,12 @@ record NotAmong (y : List ℕ) (xs ys : List (List ℕ)) : Type 0 where
 
 module _ (y : List ℕ) where
   not-before : (seen : List (List ℕ)) (n : List ℕ) → list_any (bytes_eq y) (with_name seen n) ≡ false → NotAmong y seen (n ∷ [])
-  not-before seen n none = by (list_any (bytes_eq n) seen) refl none
-    where
-      apart : list_any (bytes_eq n) seen ≡ true → list_any (bytes_eq y) seen ≡ false → (b : Bool) → bytes_eq y n ≡ b → (b || false) ≡ false
-      apart among without true same =
-          let e : true ≡ false = sym among ∙ ap (λ (x : List ℕ). list_any (bytes_eq x) seen) (sym ((bytes_eq-Decides y n).0 same)) ∙ without in
-          absurd cc
-      apart among without false same = refl
-
-      by : (b : Bool) → list_any (bytes_eq n) seen ≡ b → list_any (bytes_eq y) (if b then seen else seen ++ n ∷ []) ≡ false → NotAmong y seen (n ∷ [])
-      by true among without = record { here = without; there = ap (λ (b : Bool). b || false) refl ∙ apart among without (bytes_eq y n) refl }
-      by false among without =
-          let both : (list_any (bytes_eq y) seen || (bytes_eq y n || false)) ≡ false = sym (list_any-append (bytes_eq y) seen (n ∷ [])) ∙ without in
-          record { here = left-none (list_any (bytes_eq y) seen) (bytes_eq y n || false) both; there = right-none (list_any (bytes_eq y) seen) (bytes_eq y n || false) both }
+  not-before seen n none =
+      grind (arith, bytes_eq-Decides y n, list_any-append (bytes_eq y) seen (n ∷ []), left-none (list_any (bytes_eq y) seen), right-none (list_any (bytes_eq y) seen))
 
   not-found : (seen found : List (List ℕ)) → list_any (bytes_eq y) (fold with_name seen found) ≡ false → NotAmong y seen found
   not-found seen [] none = record { here = none; there = refl }
-  not-found seen (n ∷ found) none =
-      let later = not-found (with_name seen n) found none in
-      let first = not-before seen n later.here in
-      record { here = first.here; there = ap (λ (b : Bool). b || list_any (bytes_eq y) found) (left-none (bytes_eq y n) false first.there) ∙ later.there }
+  not-found seen (n ∷ found) none = grind (arith, not-found (with_name seen n) found none, not-before seen n, left-none (bytes_eq y n) false)
 
   -- a statement that has the name nowhere
   abbrev lacks : (arrays : List ℕ → Bool) → Stmt → Bool
@@ -92,11 +71,7 @@ module _ (y : List ℕ) where
   all-lack : (arrays : List ℕ → Bool) (stmts : List Labelled) → list_any (bytes_eq y) (flat_map (λ s. appearing_here arrays s.stmt) stmts) ≡ false → list_all (λ s. lacks arrays s.stmt) stmts ≡ true
   all-lack arrays [] none = refl
   all-lack arrays (s ∷ rest) none =
-      let here = appearing_here arrays s.stmt in
-      let there = flat_map (λ s. appearing_here arrays s.stmt) rest in
-      let both : (list_any (bytes_eq y) here || list_any (bytes_eq y) there) ≡ false = sym (list_any-append (bytes_eq y) here there) ∙ sym (ap (list_any (bytes_eq y)) (flat_map-cons (λ s. appearing_here arrays s.stmt) s rest)) ∙ none in
-      and_from (lacks arrays s.stmt) (list_all (λ s. lacks arrays s.stmt) rest) (negation (list_any (bytes_eq y) here) (left-none (list_any (bytes_eq y) here) (list_any (bytes_eq y) there) both))
-      (all-lack arrays rest (right-none (list_any (bytes_eq y) here) (list_any (bytes_eq y) there) both))
+      grind (arith, flat_map, list_any-append (bytes_eq y), flat_map-cons, and_from, negation, left-none, all-lack arrays rest, right-none)
 
   unit-lacks : (u : List Labelled) → list_any (bytes_eq y) (names_of_unit u) ≡ false → list_all (λ s. lacks (is_array u) s.stmt) u ≡ true
   unit-lacks u none = all-lack (is_array u) u (NotAmong.there (not-found [] (flat_map (λ s. appearing_here (is_array u) s.stmt) u) none))
@@ -105,92 +80,30 @@ module _ (y : List ℕ) where
 
   names-lack : (decls : List Decl) → list_any (bytes_eq y) (map (λ decl. decl.name) decls) ≡ false → list_any (λ decl. bytes_eq decl.name y) decls ≡ false
   names-lack [] none = refl
-  names-lack (decl ∷ decls) none =
-      let more = list_any (bytes_eq y) (map (λ decl. decl.name) decls) in
-      ap (λ (b : Bool). b || list_any (λ decl. bytes_eq decl.name y) decls) (turned y decl.name (left-none (bytes_eq y decl.name) more none)) ∙ names-lack decls (right-none (bytes_eq y decl.name) more none)
+  names-lack (decl ∷ decls) none = grind (arith, turned y, left-none, names-lack decls, right-none)
 
   told-lack : (decls : List Decl) → list_any (bytes_eq y) (map (λ decl. decl.name) decls) ≡ false → first_answer (dims_told y) decls ≡ None
   told-lack [] none = refl
-  told-lack (decl ∷ decls) none =
-      let more = list_any (bytes_eq y) (map (λ decl. decl.name) decls) in
-      ap (λ (b : Bool). answer_or (if b && has_dims decl then Some decl.dims else None) (first_answer (dims_told y) decls)) (turned y decl.name (left-none (bytes_eq y decl.name) more none)) ∙ told-lack decls (right-none (bytes_eq y decl.name) more none)
+  told-lack (decl ∷ decls) none = grind (arith, turned y, left-none, told-lack decls, right-none)
 
   parts-lack : (parts : List CommonPart) → list_any (bytes_eq y) (flat_map (λ part. map (λ decl. decl.name) part.decls) parts) ≡ false → first_answer (dims_told y) (flat_map (λ part. part.decls) parts) ≡ None
   parts-lack [] none = refl
   parts-lack (part ∷ parts) none =
-      let here = map (λ decl. decl.name) part.decls in
-      let there = flat_map (λ part. map (λ decl. decl.name) part.decls) parts in
-      let both : (list_any (bytes_eq y) here || list_any (bytes_eq y) there) ≡ false = sym (list_any-append (bytes_eq y) here there) ∙ sym (ap (list_any (bytes_eq y)) (flat_map-cons (λ part. map (λ decl. decl.name) part.decls) part parts)) ∙ none in
-      ap (first_answer (dims_told y)) (flat_map-cons (λ part. part.decls) part parts)
-      ∙ first-append (dims_told y) part.decls (flat_map (λ part. part.decls) parts)
-      ∙ ap (λ (o : Option (List Dim)). answer_or o (first_answer (dims_told y) (flat_map (λ part. part.decls) parts))) (told-lack part.decls (left-none (list_any (bytes_eq y) here) (list_any (bytes_eq y) there) both))
-      ∙ parts-lack parts (right-none (list_any (bytes_eq y) here) (list_any (bytes_eq y) there) both)
+      grind (arith, flat_map, list_any-append (bytes_eq y), flat_map-cons, first-append (dims_told y), told-lack, left-none, parts-lack parts, right-none)
 
   not-true : (b : Bool) → not b ≡ true → b ≡ false
   not-true true is = let e : false ≡ true = is in absurd cc
   not-true false is = refl
 
   typed-lack : (arrays : List ℕ → Bool) (s : Stmt) → lacks arrays s ≡ true → kind_typed y s ≡ None
-  typed-lack arrays (TypeOf kind decls) is = ap (λ (b : Bool). if b then Some kind else None) (names-lack decls (not-true (list_any (bytes_eq y) (map (λ decl. decl.name) decls)) is))
-  typed-lack arrays Program is = refl
-  typed-lack arrays (Implicit a) is = refl
-  typed-lack arrays ImplicitNone is = refl
-  typed-lack arrays (Dimension a) is = refl
-  typed-lack arrays (Common a) is = refl
-  typed-lack arrays (Equivalence a) is = refl
-  typed-lack arrays (Init a) is = refl
-  typed-lack arrays (Assign a b) is = refl
-  typed-lack arrays (Print a) is = refl
-  typed-lack arrays (Take a) is = refl
-  typed-lack arrays Continue is = refl
-  typed-lack arrays Stop is = refl
-  typed-lack arrays (GoTo a) is = refl
-  typed-lack arrays (PickGoTo a b) is = refl
-  typed-lack arrays (SignIf a b c d) is = refl
-  typed-lack arrays (ThenIf' a b c) is = refl
-  typed-lack arrays (BlockIf a) is = refl
-  typed-lack arrays (ElseIf a) is = refl
-  typed-lack arrays Else is = refl
-  typed-lack arrays EndIf is = refl
-  typed-lack arrays (Do a b c d e) is = refl
-  typed-lack arrays (Sub a b) is = refl
-  typed-lack arrays (CallTo a b) is = refl
-  typed-lack arrays Back is = refl
-  typed-lack arrays End is = refl
+  typed-lack arrays h is = grind (arith, names-lack, not-true)
 
   told-in-lack : (arrays : List ℕ → Bool) (s : Stmt) → lacks arrays s ≡ true → told_in y s ≡ None
-  told-in-lack arrays (TypeOf kind decls) is = told-lack decls (not-true (list_any (bytes_eq y) (map (λ decl. decl.name) decls)) is)
-  told-in-lack arrays (Dimension decls) is = told-lack decls (not-true (list_any (bytes_eq y) (map (λ decl. decl.name) decls)) is)
-  told-in-lack arrays (Common parts) is = parts-lack parts (not-true (list_any (bytes_eq y) (flat_map (λ part. map (λ decl. decl.name) part.decls) parts)) is)
-  told-in-lack arrays Program is = refl
-  told-in-lack arrays (Implicit a) is = refl
-  told-in-lack arrays ImplicitNone is = refl
-  told-in-lack arrays (Equivalence a) is = refl
-  told-in-lack arrays (Init a) is = refl
-  told-in-lack arrays (Assign a b) is = refl
-  told-in-lack arrays (Print a) is = refl
-  told-in-lack arrays (Take a) is = refl
-  told-in-lack arrays Continue is = refl
-  told-in-lack arrays Stop is = refl
-  told-in-lack arrays (GoTo a) is = refl
-  told-in-lack arrays (PickGoTo a b) is = refl
-  told-in-lack arrays (SignIf a b c d) is = refl
-  told-in-lack arrays (ThenIf' a b c) is = refl
-  told-in-lack arrays (BlockIf a) is = refl
-  told-in-lack arrays (ElseIf a) is = refl
-  told-in-lack arrays Else is = refl
-  told-in-lack arrays EndIf is = refl
-  told-in-lack arrays (Do a b c d e) is = refl
-  told-in-lack arrays (Sub a b) is = refl
-  told-in-lack arrays (CallTo a b) is = refl
-  told-in-lack arrays Back is = refl
-  told-in-lack arrays End is = refl
+  told-in-lack arrays h is = grind (arith, told-lack, not-true, parts-lack, flat_map)
 
   first-lack : {B : Type 0} (f : Stmt → Option B) (test : Stmt → Bool) → ((s : Stmt) → test s ≡ true → f s ≡ None) → (ts : List Stmt) → list_all test ts ≡ true → first_answer f ts ≡ None
   first-lack f test none [] all = refl
-  first-lack f test none (t ∷ ts) all =
-      let parts = and_parts (test t) (list_all test ts) all in
-      ap (λ (o : Option _). answer_or o (first_answer f ts)) (none t parts.0) ∙ first-lack f test none ts parts.1
+  first-lack f test none (t ∷ ts) all = grind (arith, first-lack f test none ts)
 
 -- ---- the name of an entity
 
@@ -213,13 +126,7 @@ module _ (us : List (List Labelled)) (subs : (name : List ℕ) → 0 < unit_of u
   -- the answers are those of what is put in: of the types first
   types-answer : {B : Type 0} (f : Stmt → Option B) → ((s : Stmt) → lacks y (is_array (unit_at us 0)) s ≡ true → f s ≡ None) → list_all (λ s. not (is_some (f s.stmt))) (put_in_rest us) ≡ true → first_answer f (declarations (whole_list us)) ≡ first_answer f (map (λ s. s.stmt) (put_in_types us))
   types-answer f none rest =
-      let others = map (λ s. s.stmt) (put_in_rest us) in
-      put-in-answers us subs f (first-lack y f (lacks y (is_array (unit_at us 0))) none (front us subs) both-lack.0) (first-lack y f (lacks y (is_array (unit_at us 0))) none (back us subs) both-lack.1)
-      ∙ ap (λ (xs : List Labelled). first_answer f (map (λ s. s.stmt) xs)) (put-in-parts us)
-      ∙ ap (first_answer f) (map-append (λ s. s.stmt) (put_in_types us) (put_in_rest us))
-      ∙ first-append f (map (λ s. s.stmt) (put_in_types us)) others
-      ∙ ap (answer_or (first_answer f (map (λ s. s.stmt) (put_in_types us)))) (first-none f others (sym (all-of-stmts us subs (λ s. not (is_some (f s))) (put_in_rest us)) ∙ rest))
-      ∙ or-none (first_answer f (map (λ s. s.stmt) (put_in_types us)))
+      grind (arith, put_in_rest us, put-in-answers us subs f (first-lack y f (lacks y (is_array (unit_at us 0))) none (front us subs) both-lack.0) (first-lack y f (lacks y (is_array (unit_at us 0))) none (back us subs) both-lack.1), first-lack y f (lacks y (is_array (unit_at us 0))) none (front us subs) both-lack.0, front us subs, first-lack y f (lacks y (is_array (unit_at us 0))) none (back us subs) both-lack.1, back us subs, put-in-parts us, map-append, put_in_types us, first-append f, first-none f, all-of-stmts us subs, or-none)
 
   differs : (x : Entity) → Listed us x → same_entity e x ≡ false → bytes_eq (name_for us x) y ≡ false
   differs x known apart_here = by (bytes_eq (name_for us x) y) refl
@@ -235,10 +142,7 @@ module _ (us : List (List Labelled)) (subs : (name : List ℕ) → 0 < unit_of u
     -- where it isn't there, nothing answers
     none-there : (xs : List Entity) → list_all (λ x. list_any (same_entity x) (y_entities us)) xs ≡ true → list_any (same_entity e) xs ≡ false → first_answer f (map (λ s. s.stmt) (map (type_of us line) xs)) ≡ None
     none-there [] all absent = refl
-    none-there (x ∷ xs) all absent =
-        let parts = and_parts (list_any (same_entity x) (y_entities us)) (list_all (λ x. list_any (same_entity x) (y_entities us)) xs) all in
-        ap (λ (o : Option B). answer_or o (first_answer f (map (λ s. s.stmt) (map (type_of us line) xs)))) (others x parts.0 (left-none (same_entity e x) (list_any (same_entity e) xs) absent))
-        ∙ none-there xs parts.1 (right-none (same_entity e x) (list_any (same_entity e) xs) absent)
+    none-there (x ∷ xs) all absent = grind (arith, left-none, none-there xs, right-none)
 
     -- all that answer give the same answer
     answers : (xs : List Entity) → list_all (λ x. list_any (same_entity x) (y_entities us)) xs ≡ true → list_any (same_entity e) xs ≡ true → first_answer f (map (λ s. s.stmt) (map (type_of us line) xs)) ≡ answer
@@ -279,14 +183,7 @@ module _ (us : List (List Labelled)) (subs : (name : List ℕ) → 0 < unit_of u
 
   pub own-kinds : kind_of (whole_list us) y ≡ Some kind
   own-kinds =
-      let line = last_line (unit_at us 0) in
-      let typed : first_answer (kind_typed y) (declarations (whole_list us)) ≡ Some kind =
-      types-answer (kind_typed y) (typed-lack y (is_array (unit_at us 0))) (rest-passes us (λ s. not (is_some (kind_typed y s.stmt))) (λ line block. refl) (λ line g. refl) (λ line i. refl))
-      ∙ answers (kind_typed y) line (Some kind) (ap (λ (b : Bool). if b || false then Some kind else None) itself)
-      (λ x known is. ap (λ (b : Bool). if b || false then Some (kind_or_integer (kind_of (declared_in us x).0 (declared_in us x).1)) else None) (differs x known is))
-      (filter (is_running us) (y_entities us)) (running-listed us) in-running in
-      kind-declared (whole_list us) y
-      ∙ ap (λ (o : Option Kind). answer_or o (answer_or (first_answer (kind_implied (slice_index y 0)) (declarations (whole_list us))) (kind_by_default (list_any is_implicit_none (declarations (whole_list us))) (slice_index y 0)))) typed
+      grind (arith, types-answer (kind_typed y) (typed-lack y (is_array (unit_at us 0))), typed-lack y (is_array (unit_at us 0)), rest-passes us, answers (kind_typed y), itself, differs, running-listed us, in-running, kind-declared (whole_list us) y)
 
   pub own-dims : dims_of (whole_list us) y ≡ dims
   own-dims =
@@ -310,11 +207,7 @@ module _ (us : List (List Labelled)) (subs : (name : List ℕ) → 0 < unit_of u
 -- where names are short and few enough
 module _ (us : List (List Labelled)) (subs : (name : List ℕ) → 0 < unit_of us name) (short : list_all (λ x. nat_le (length x) 6) (used_names us) ≡ true) (few : has_great_name us ≡ false) (e : Entity) (listed : list_any (same_entity e) (y_entities us) ≡ true) (running : is_running us e ≡ true) where
   not-named : list_any (bytes_eq (name_for us e)) (names_of_unit (unit_at us 0)) ≡ false
-  not-named = by (list_any (bytes_eq (name_for us e)) (names_of_unit (unit_at us 0))) refl
-    where
-      by : (b : Bool) → list_any (bytes_eq (name_for us e)) (names_of_unit (unit_at us 0)) ≡ b → b ≡ false
-      by true is = absurd (new-by us e (short-free us short few e listed) 0 (name_for us e) is refl)
-      by false is = refl
+  not-named = grind (arith, new-by us e (short-free us short few e listed) 0 (name_for us e), short-free us short few e listed)
 
   pub listed-kinds : kind_of (whole_list us) (name_for us e) ≡ Some (kind_or_integer (kind_of (declared_in us e).0 (declared_in us e).1))
   listed-kinds = own-kinds us subs (short-apart us short few) e listed running not-named

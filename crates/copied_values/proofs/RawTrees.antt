@@ -10,6 +10,7 @@ use Rattle.f77_tree.specs.Declarations.{index_of}
 use Rattle.layout_rules.specs.Resolved.{access_of, in_dialect, nested, resolved, resolved_call, resolved_row}
 use Rattle.f77_subs.specs.Copies.{pairs}
 use Rattle.layout_rules.proofs.RawRows.{row_of}
+use Rattle.std.proofs.Common.{arith}
 
 resolved_row-items : (names : List NameInfo) (checked : Bool) (n : _) (row : Row_of-RawExpr n) → resolved_row names checked row ≡ map (resolved names checked) (items-the_row-RawExpr n row)
 resolved_row-items names checked n end_of-RawExpr = refl
@@ -43,5 +44,4 @@ pub resolved-pairs : (names : List NameInfo) (checked : Bool) (op : Op) (args : 
 resolved-pairs names checked op [] = resolved-Apply names checked op []
 resolved-pairs names checked op (a ∷ []) = resolved-Apply names checked op (a ∷ [])
 resolved-pairs names checked op (a ∷ b ∷ rest) =
-    resolved-fold names checked op (Apply op (a ∷ b ∷ [])) rest
-    ∙ ap (λ (x : Expr). fold (λ e c. ApplyOf (in_dialect checked op) (e ∷ c ∷ [])) x (map (resolved names checked) rest)) (resolved-Apply names checked op (a ∷ b ∷ []))
+    grind (arith, resolved-fold names checked op (Apply op (a ∷ b ∷ [])) rest, resolved-Apply names checked op (a ∷ b ∷ []))

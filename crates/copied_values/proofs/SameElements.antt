@@ -52,12 +52,7 @@ record InBounds (dim : Dim) (v : ℤ) : Type 0 where
   high : v ≤ℤ dim.hi
 
 in-bounds : (dim : Dim) (v : ℤ) → (int_lt v dim.lo || int_lt dim.hi v) ≡ false → InBounds dim v
-in-bounds dim v is = by (int_lt v dim.lo) (int_lt dim.hi v) refl refl is
-  where
-    by : (p q : Bool) → int_lt v dim.lo ≡ p → int_lt dim.hi v ≡ q → (p || q) ≡ false → InBounds dim v
-    by true q f g h = let no : true ≡ false = h in absurd cc
-    by false true f g h = let no : true ≡ false = h in absurd cc
-    by false false f g h = record { low = omega (arith, ints); high = omega (arith, ints) }
+in-bounds dim v is = grind (arith, ints)
 
 either : (dims : List Dim) (values : List (Result ℤ Trap)) → length values ≡ length dims → Either dims values
 either [] [] same = All (record { subs = []; are = refl; within = tt })

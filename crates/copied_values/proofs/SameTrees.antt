@@ -1,5 +1,5 @@
 -- Tables that differ in places alone: expressions are resolved alike over them, and have the same kinds.
-use Rattle.std.proofs.Common.{◌≡◌, ℕ, zero, suc, ◌+◌, Bool, not, ◌&&◌, ◌==◌, cond, if◌then◌else◌, List, [], ◌∷◌, length, Some, None, find, bytes_eq, refl, sym, ap, ◌∙◌}
+use Rattle.std.proofs.Common.{◌≡◌, ℕ, zero, suc, ◌+◌, Bool, not, ◌&&◌, cond, if◌then◌else◌, List, [], ◌∷◌, length, Some, None, find, bytes_eq, refl, sym, ap, ◌∙◌}
 use Rattle.std.specs.Prelude.{nat_lt}
 use Rattle.f77_tree.specs.declared.declarations.Dim.{Dim}
 use Rattle.f77_tree.specs.declared.declarations.Kind.{Kind}
@@ -16,7 +16,9 @@ use Rattle.f77_tree.specs.Line.{kind_of_op}
 use Rattle.f77_tree.specs.OtherPlaces.{DifferInPlaces, without_places}
 use Rattle.f77_tree.specs.Value.{dims_of, kind_of}
 use Rattle.layout_rules.specs.Resolved.{access_of, in_dialect, intrinsic_call, resolved, resolved_call, resolved_row}
-use Rattle.layout_rules.specs.Types.{count_of_row, dims_named, intrinsics, is_array_in, is_kind, is_row_of, kind_in, kind_named, kind_of_call, takes}
+use Rattle.layout_rules.specs.Types.{count_of_row, dims_named, intrinsics, is_array_in, is_kind, is_row_of, kind_in, kind_named, kind_of_call}
+use Rattle.std.proofs.lemmas.Grind.{elements}
+use Rattle.std.proofs.Common.{arith}
 
 bare-index : (names : List NameInfo) (name : List ℕ) → index_of (without_places names) name ≡ index_of names name
 bare-index [] name = refl
@@ -76,18 +78,13 @@ module _ (names others : List NameInfo) (differ : DifferInPlaces names others) w
     accesses-same (Int z) = refl
     accesses-same (Truth b) = refl
     accesses-same (Named name) = ap (λ k. let made : Access = record { name = k; subs = [] } in made) (same-index name)
-    accesses-same (Call' name shape args) =
-        ap (λ k. let made : Access = record { name = k; subs = resolved_row others checked args } in made) (same-index name)
-        ∙ ap (λ (es : List Expr). let made : Access = record { name = index_of names name; subs = es } in made) (rows-same _ args)
+    accesses-same (Call' name shape args) = grind (arith, elements, same-index, rows-same)
     accesses-same (RawApply' op shape args) = refl
 
   -- ---- kinds
 
   call-kind : (name : List ℕ) (count : ℕ) → kind_of_call others name count ≡ kind_of_call names name count
-  call-kind name count =
-      ap (λ b. if b then (if length (dims_named others name) == count then Some (kind_named others name) else None) else (if takes name count then Some Integer else None)) (same-array name)
-      ∙ ap (λ dims. if is_array_in names name then (if length dims == count then Some (kind_named others name) else None) else (if takes name count then Some Integer else None)) (same-dims name)
-      ∙ ap (λ kind. if is_array_in names name then (if length (dims_named names name) == count then Some kind else None) else (if takes name count then Some Integer else None)) (same-kind name)
+  call-kind name count = grind (arith, elements, same-array, same-dims, same-kind)
 
   mutual
     pub kinds-same : (e : RawExpr) → kind_in others e ≡ kind_in names e

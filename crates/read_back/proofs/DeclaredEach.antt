@@ -11,6 +11,8 @@ use Rattle.f77_tree.specs.declared.programs.Program.{Program}
 use Rattle.f77_tree.specs.StatementGrammar.{WrittenStatement}
 use Rattle.f77_tree.proofs.AllLemmas.{All-nil, All-cons}
 use Rattle.flat_programs.specs.Declarations.{typed_name, block_statement, is_continued, common_at, commons, group_statement, init_statement, declared}
+use Rattle.std.proofs.lemmas.Grind.{elements}
+use Rattle.std.proofs.Common.{arith}
 
 module _ (P : WrittenStatement → Type 0) where
   pub mapped_each : {X : Type 0} (f : X → WrittenStatement) (xs : List X) → ((x : X) → P (f x)) → All P (map f xs)
@@ -28,8 +30,7 @@ module _ (P : WrittenStatement → Type 0) where
 
     commons_from : (places : List ℕ) → All P (flat_map (λ k. common_at parts k (slice_get parts k)) places)
     commons_from [] = All-nil P
-    commons_from (k ∷ places) =
-        All-append P (common_at parts k (slice_get parts k)) (flat_map (λ j. common_at parts j (slice_get parts j)) places) (common_each k (slice_get parts k)) (commons_from places)
+    commons_from (k ∷ places) = grind (arith, elements, All-append, common_each, commons_from places)
 
     pub commons_each : All P (commons parts)
     commons_each = commons_from (range_with_len 0 (length parts))
@@ -37,11 +38,7 @@ module _ (P : WrittenStatement → Type 0) where
   -- the declarations of names, COMMON and EQUIVALENCE
   pub storage_each : (q : Program) → ((block : Option (List ℕ)) → P (block_statement q.commons block)) → ((info : NameInfo) → P (typed_name info)) → ((group : List Member) → P (group_statement group)) → All P (map typed_name q.names ++ commons q.commons ++ map group_statement q.groups)
   storage_each q blocks names groups =
-      let a = map typed_name q.names in
-      let b = commons q.commons in
-      let c = map group_statement q.groups in
-      All-append P (a ++ b) c (All-append P a b (mapped_each typed_name q.names names) (commons_each q.commons blocks)) (mapped_each group_statement q.groups groups)
+      grind (arith, All-append P, mapped_each typed_name q.names names, commons_each q.commons blocks, mapped_each group_statement q.groups groups)
 
   pub declared_each : (q : Program) → ((block : Option (List ℕ)) → P (block_statement q.commons block)) → ((info : NameInfo) → P (typed_name info)) → ((group : List Member) → P (group_statement group)) → ((part : InitPart) → P (init_statement part)) → All P (declared q)
-  declared_each q blocks names groups inits =
-      All-append P (map typed_name q.names ++ commons q.commons ++ map group_statement q.groups) (map init_statement q.inits) (storage_each q blocks names groups) (mapped_each init_statement q.inits inits)
+  declared_each q blocks names groups inits = grind (arith, elements, All-append, storage_each, mapped_each)

@@ -1,5 +1,5 @@
 -- The declarations of a program can be printed and read.
-use Rattle.std.proofs.Common.{◌≡◌, ◌==◌, ℕ, zero, suc, ◌+◌, ◌<◌, ◌≤◌, Bool, true, false, cond, List, [], ◌∷◌, ◌++◌, length, ◌&&◌, ◌||◌, nat_lt, nat_le, map, refl, sym, ap, ◌∙◌, subst, arith, Option, Some, None, ⊎_elim, length-append, filter}
+use Rattle.std.proofs.Common.{◌≡◌, ◌==◌, ℕ, zero, suc, ◌+◌, ◌<◌, ◌≤◌, Bool, true, false, cond, List, [], ◌∷◌, ◌++◌, length, ◌&&◌, ◌||◌, nat_lt, nat_le, map, refl, sym, ap, ◌∙◌, arith, Option, Some, None, length-append, filter}
 use Rattle.std.specs.Prelude.{flat_map, decimal, All, slice_get}
 use Rattle.std.specs.List.{list_all, list_any, range_with_len}
 use Rattle.std.proofs.lemmas.Bool.{and_from, le-leb, lt-ltb, le-ltb, ne_eqb, eqb-true}
@@ -19,7 +19,7 @@ use Rattle.f77_tree.specs.InitialWords.{IsLit, IsInitValue, IsInitPart}
 use Rattle.f77_tree.specs.Value.{dims_of}
 use Rattle.f77_tree.specs.Name.{is_name}
 use Rattle.f77_tree.specs.Grammar.{greatest_constant}
-use Rattle.f77_tree.specs.StatementGrammar.{is_signed, are_great, dim_numbers, WrittenDecl, decl_numbers, IsDecl, IsPart, is_block, WrittenMember, is_member, is_group, is_constant, constant_is_great, are_times, times_of, is_value, value_is_bad, WrittenData, is_data, WrittenStatement, IsStatement, has_bad_constant}
+use Rattle.f77_tree.specs.StatementGrammar.{are_great, WrittenDecl, decl_numbers, IsDecl, IsPart, is_block, WrittenMember, is_member, is_group, is_constant, constant_is_great, are_times, times_of, is_value, value_is_bad, WrittenData, is_data, WrittenStatement, IsStatement, has_bad_constant}
 use Rattle.f77_tree.proofs.AllLemmas.{All-nil, All-cons, All-first, All-rest, All-get}
 use Rattle.f77_tree.proofs.NameLemmas.{index_of-name}
 use Rattle.f77_expr.specs.Printing.{name_in}
@@ -27,6 +27,7 @@ use Rattle.f77_expr.proofs.PrintedNumbers.{is_number-decimal, number_of-decimal}
 use Rattle.flat_programs.specs.Declarations.{signed, written_dim, typed_name, same_block, written_block, name_alone, block_decls, block_statement, is_continued, common_at, commons, written_member, group_statement, written_constant, written_times, written_value, init_statement}
 use Rattle.read_back.proofs.Prints.{Prints, typed_prints, common_prints, equivalence_prints, init_prints}
 use Rattle.read_back.proofs.WrittenNumbers.{AreFine, fine-append, fine_signed, fine_small, signed_signed, signed_small, signed_fine, small_fits, dims_fine, within_written}
+use Rattle.std.proofs.lemmas.Grind.{elements}
 
 -- a statement that is printed so that it is read, with constants in range
 pub record CanBePrinted (w : WrittenStatement) : Type 0 where
@@ -49,17 +50,7 @@ fine_numbers [] all = tt
 fine_numbers (d ∷ ds) all = fine-append (decl_numbers d) (flat_map decl_numbers ds) (All-first IsFineDecl d ds all).fine (fine_numbers ds (All-rest IsFineDecl d ds all))
 
 fine_decl : (info : NameInfo) → IsNameInfo info → IsFineDecl (record { name = info.name; dims = map written_dim info.dims })
-fine_decl info is =
-    let dims = map written_dim info.dims in
-    let fine = dims_fine info.dims is.dimensions.bounds in
-    record {
-      grammatical = record {
-        symbolic = is.symbolic;
-        few = omega (arith, length-map info.dims written_dim, is.dimensions.dimensions);
-        numbers = fine_signed (flat_map dim_numbers dims) fine;
-      };
-      fine = fine;
-    }
+fine_decl info is = grind (arith, dims_fine, length-map, fine_signed)
 
 typed_can : (info : NameInfo) → IsNameInfo info → CanBePrinted (typed_name info)
 typed_can info is =
@@ -74,8 +65,7 @@ typed_can info is =
 
 pub names_can : (names : List NameInfo) → All IsNameInfo names → All CanBePrinted (map typed_name names)
 names_can [] all = All-nil CanBePrinted
-names_can (info ∷ names) all =
-    All-cons CanBePrinted (typed_name info) (map typed_name names) (typed_can info (All-first IsNameInfo info names all)) (names_can names (All-rest IsNameInfo info names all))
+names_can (info ∷ names) all = search (All-cons, typed_can, All-first, All-rest, names_can names (All-rest IsNameInfo info names all), arith)
 
 -- ---- names of the table
 
@@ -124,11 +114,7 @@ module _ (names : List NameInfo) (table : All IsNameInfo names) where
   block_some : (parts : List CommonPart) (k : ℕ) (part : CommonPart) → All (IsCommonPart names) parts → slice_get parts k ≡ Some part → 0 < length (block_decls parts part.block)
   block_some [] k part all is = absurd cc
   block_some (p ∷ parts) zero part all is =
-      let same : p ≡ part = cc in
-      let rest = filter (λ q. same_block q.block p.block) parts in
-      let some : 0 < length p.decls = (All-first (IsCommonPart names) p parts all).some in
-      let here : 0 < length (block_decls (p ∷ parts) p.block) = subst (λ (b : Bool). 0 < length (flat_map decls_of (cond b (p ∷ rest) rest))) (sym (same_itself p.block)) (omega (arith, some, length-append (decls_of p) (flat_map decls_of rest), length-map p.decls name_alone)) in
-      subst (λ (q : CommonPart). 0 < length (block_decls (p ∷ parts) q.block)) same here
+      grind (arith, All-first (IsCommonPart names) p parts all, same_itself p.block, length-append (decls_of p), length-map p.decls name_alone)
   block_some (p ∷ parts) (suc k) part all is =
       some_if (same_block p.block part.block) p (filter (λ q. same_block q.block part.block) parts) (block_some parts k part (All-rest (IsCommonPart names) p parts all) is)
 
@@ -159,8 +145,7 @@ module _ (names : List NameInfo) (table : All IsNameInfo names) where
 
   commons_from : (parts : List CommonPart) (k n : ℕ) → All (IsCommonPart names) parts → All CanBePrinted (flat_map (λ j. common_at parts j (slice_get parts j)) (range_with_len k n))
   commons_from parts k zero all = All-nil CanBePrinted
-  commons_from parts k (suc n) all =
-      All-append CanBePrinted (common_at parts k (slice_get parts k)) (flat_map (λ j. common_at parts j (slice_get parts j)) (range_with_len (k + 1) n)) (common_can parts k (slice_get parts k) all refl) (commons_from parts (k + 1) n all)
+  commons_from parts k (suc n) all = search (All-append, common_can, commons_from parts (k + 1) n all, arith)
 
   pub commons_can : (parts : List CommonPart) → All (IsCommonPart names) parts → All CanBePrinted (commons parts)
   commons_can parts all = commons_from parts 0 (length parts) all
@@ -169,19 +154,14 @@ module _ (names : List NameInfo) (table : All IsNameInfo names) where
 
   pub subs_written : (m : Member) → IsMember names m → All CanBeWritten m.subs
   subs_written m is =
-      ⊎_elim
-      (λ (none : m.subs ≡ []). subst (λ subs. All CanBeWritten subs) (sym none) (All-nil CanBeWritten))
-      (λ within. within_written (dims_of names (member_index names m)) m.subs (dims_at names (member_index names m) table) within)
-      is.element
+      grind (arith, All-nil CanBeWritten, within_written (dims_of names (member_index names m)), dims_at names (member_index names m) table)
 
   member_is : (m : Member) → IsMember names m → is_member (written_member m) ≡ true
-  member_is m is =
-      and_from (is_name m.name) (list_all is_signed (map signed m.subs)) (known_name m.name is.known) (fine_signed (map signed m.subs) (signed_fine m.subs (subs_written m is)))
+  member_is m is = grind (arith, elements, and_from, known_name, fine_signed, signed_fine, subs_written)
 
   members_are : (ms : List Member) → All (IsMember names) ms → list_all is_member (map written_member ms) ≡ true
   members_are [] all = refl
-  members_are (m ∷ ms) all =
-      and_from (is_member (written_member m)) (list_all is_member (map written_member ms)) (member_is m (All-first (IsMember names) m ms all)) (members_are ms (All-rest (IsMember names) m ms all))
+  members_are (m ∷ ms) all = search (and_from, member_is, All-first, All-rest, members_are ms (All-rest (IsMember names) m ms all), arith)
 
   pub members_symbolic : (ms : List Member) → All (IsMember names) ms → All (λ (m : Member). is_name m.name ≡ true) ms
   members_symbolic ms all k d lt = known_name _ (all k d lt).known

@@ -1,7 +1,6 @@
 -- What the statements of a printed program declare of its names: their dimensions and their kinds, as its table has them.
 use Rattle.std.proofs.Common.{◌≡◌, ℕ, zero, suc, ◌+◌, ◌<◌, ◌≤◌, ℤ, pos, negsuc, ◌-ℤ◌, Bool, true, false, cond, not, List, [], ◌∷◌, ◌++◌, length, map, ◌&&◌, ◌||◌, nat_lt, refl, sym, ap, ◌∙◌, subst, ⊎_elim, arith, Option, Some, None}
-use Rattle.std.specs.Prelude.{All, bytes_eq, filter, flat_map, slice_index}
-use Rattle.std.specs.List.{list_any}
+use Rattle.std.specs.Prelude.{All, bytes_eq, filter, flat_map}
 use Rattle.std.specs.Ordering.{int_eq}
 use Rattle.std.proofs.lemmas.Bool.{cases_lt, lt-ltb}
 use Rattle.std.proofs.lemmas.Int.{ints}
@@ -15,7 +14,6 @@ use Rattle.f77_tree.specs.declared.declarations.Dim.{Dim}
 use Rattle.f77_tree.specs.declared.declarations.Kind.{Kind}
 use Rattle.f77_tree.specs.declared.programs.NameInfo.{NameInfo}
 use Rattle.f77_tree.specs.declared.programs.Program.{Program}
-use Rattle.f77_tree.specs.declared.statements.Labelled.{Labelled}
 use Rattle.f77_tree.specs.Declarations.{CanBeWritten, IsDim, IsNameInfo, NamesDiffer, index_of}
 use Rattle.f77_tree.specs.StatementGrammar.{statement_of, whole_number, dim_of, low_of, decl_of}
 use Rattle.f77_tree.specs.Value.{dims_of as dims_at, kind_of as kind_at}
@@ -23,7 +21,7 @@ use Rattle.f77_tree.proofs.AllLemmas.{All-nil, All-cons, All-first, All-rest}
 use Rattle.f77_tree.proofs.NameLemmas.{bytes_eq-same, index_of-name}
 use Rattle.f77_expr.specs.Printing.{name_in}
 use Rattle.f77_expr.proofs.PrintedNumbers.{number_of-decimal}
-use Rattle.layout_rules.specs.Declarations.{declarators, dims_told, dims_or_none, dims_of, kind_typed, kind_implied, kind_by_default, is_implicit_none, kind_of}
+use Rattle.layout_rules.specs.Declarations.{declarators, dims_told, dims_or_none, dims_of, kind_typed, kind_of}
 use Rattle.layout_rules.specs.Faults.{first_answer, answer_or}
 use Rattle.flat_programs.specs.declared.statements.FlatLine.{FlatLine}
 use Rattle.flat_programs.specs.Declarations.{signed, written_dim, typed_name, name_alone, same_block, block_decls, block_statement}
@@ -33,6 +31,7 @@ use Rattle.read_back.proofs.DeclaredEach.{commons_each}
 use Rattle.read_back.proofs.PrintedPlaces.{get_some}
 use Rattle.read_back.proofs.StatementParts.{read_stmt, after_names, HoldsOfRead, holds_of_read, parts_of_all, answers_of_all, after_each}
 use Rattle.read_back.proofs.WrittenNumbers.{small_fits}
+use Rattle.std.proofs.lemmas.Grind.{elements}
 
 -- ---- numbers and dimensions
 
@@ -48,14 +47,11 @@ low_again z h true is = sym ((Decides-int_eq z (pos 1)).0 is)
 low_again z h false is = number_again z h
 
 dim_again : (d : Dim) → IsDim d → dim_of (written_dim d) ≡ d
-dim_again d is =
-    ap (λ lo. let read : Dim = record { lo = lo; hi = whole_number (signed d.hi) } in read) (low_again d.lo is.lower (int_eq d.lo (pos 1)) refl)
-    ∙ ap (λ hi. let read : Dim = record { lo = d.lo; hi = hi } in read) (number_again d.hi is.upper)
+dim_again d is = grind (arith, low_again, pos 1, number_again)
 
 pub dims_again : (dims : List Dim) → All IsDim dims → map dim_of (map written_dim dims) ≡ dims
 dims_again [] all = refl
-dims_again (d ∷ dims) all =
-    ap (λ x. x ∷ map dim_of (map written_dim dims)) (dim_again d (All-first IsDim d dims all)) ∙ ap (λ xs. d ∷ xs) (dims_again dims (All-rest IsDim d dims all))
+dims_again (d ∷ dims) all = grind (arith, elements, dim_again, All-first, All-rest, dims_again dims (All-rest IsDim d dims all))
 
 -- ---- names of the table
 
@@ -136,9 +132,7 @@ kind_here info names false k rest more = let e : suc k ≡ 1 + k = omega arith i
 kind_from : (name : List ℕ) (names : List NameInfo) (more : List LabelledStatement) → index_of names name < length names → first_answer (λ s. kind_typed name (read_stmt s)) (typed names ++ more) ≡ Some (kind_at names (index_of names name))
 kind_from name [] more lt = absurd (omega (arith, lt))
 kind_from name (info ∷ names) more lt =
-    kind_here info names (bytes_eq info.name name) (index_of names name) (first_answer (λ s. kind_typed name (read_stmt s)) (typed names ++ more)) (λ is.
-    let less : cond (not false) (1 + index_of names name) 0 < length (info ∷ names) = subst (λ b. cond (not b) (1 + index_of names name) 0 < length (info ∷ names)) is lt in
-    kind_from name names more (omega (arith, less)))
+    grind (arith, kind_here info names (bytes_eq info.name name) (index_of names name), read_stmt, kind_from name names more)
 
 -- ---- the whole program
 
@@ -151,27 +145,13 @@ bare_names (d ∷ decls) = All-cons IsBare (decl_of (name_alone d)) (map decl_of
 
 bare_parts : (parts : List CommonPart) → All IsBare (map decl_of (flat_map (λ part. map name_alone part.decls) parts))
 bare_parts [] = All-nil IsBare
-bare_parts (part ∷ parts) =
-    let front = map name_alone part.decls in
-    let rest = flat_map (λ p. map name_alone p.decls) parts in
-    subst (All IsBare) (sym (map-append decl_of front rest)) (All-append IsBare (map decl_of front) (map decl_of rest) (bare_names part.decls) (bare_parts parts))
+bare_parts (part ∷ parts) = grind (arith, map-append decl_of, All-append IsBare, bare_names part.decls, bare_parts parts)
 
 pub bare_block : (parts : List CommonPart) (block : Option (List ℕ)) → All IsBare (declarators (statement_of (block_statement parts block)))
 bare_block parts block = All-append IsBare (map decl_of (block_decls parts block)) [] (bare_parts (filter (λ part. same_block part.block block) parts)) (All-nil IsBare)
 
 pub declares_nothing : (names : List NameInfo) → HoldsOfRead (λ s. declarators s ≡ []) names
-declares_nothing names = record {
-  mark = refl;
-  assigned = λ target value. refl;
-  taken = λ target. refl;
-  output = λ items. refl;
-  guarded = λ condition target. refl;
-  by_sign = λ value below at above. refl;
-  picked = λ value targets. refl;
-  loop = λ end var first last step. refl;
-  jump = λ target. refl;
-  finish = refl;
-}
+declares_nothing names = grind arith
 
 module _ (q : Program) (flat : List FlatLine) (table : All IsNameInfo q.names) (differ : NamesDiffer q.names) where
   abbrev others : List Decl
@@ -185,11 +165,8 @@ module _ (q : Program) (flat : List FlatLine) (table : All IsNameInfo q.names) (
   -- a name has the dimensions that the table gives to it
   pub dims_same : (name : List ℕ) → dims_of (statements_read q flat) name ≡ dims_at q.names (index_of q.names name)
   dims_same name =
-      ap (λ ds. dims_or_none (first_answer (dims_told name) ds)) (parts_of_all declarators q flat ∙ flat_map-append (λ s. declarators (read_stmt s)) (typed q.names) (after_names q flat) ∙ ap (λ ds. ds ++ others) (typed-declarators q.names))
-      ∙ dims_from name others others_bare q.names table differ
+      grind (arith, parts_of_all declarators q flat, flat_map-append, read_stmt, after_names q flat, typed-declarators q.names, dims_from name others others_bare q.names table differ, others_bare)
 
   -- and the kind
   pub kind_same : (name : List ℕ) → index_of q.names name < length q.names → kind_of (statements_read q flat) name ≡ Some (kind_at q.names (index_of q.names name))
-  kind_same name lt =
-      ap (λ found. answer_or found (answer_or (first_answer (λ (s : Labelled). kind_implied (slice_index name 0) s.stmt) (statements_read q flat)) (kind_by_default (list_any (λ (s : Labelled). is_implicit_none s.stmt) (statements_read q flat)) (slice_index name 0))))
-      (answers_of_all (kind_typed name) q flat ∙ kind_from name q.names (after_names q flat) lt)
+  kind_same name lt = grind (arith, answers_of_all (kind_typed name) q flat, kind_from name q.names (after_names q flat) lt, after_names q flat)

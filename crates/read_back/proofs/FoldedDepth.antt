@@ -1,5 +1,5 @@
 -- Brackets are as deep in a text as in what is read of it.
-use Rattle.std.proofs.Common.{◌≡◌, ◌==◌, ℕ, suc, ◌-◌, ◌<◌, ◌≤◌, max, Bool, true, false, not, cond, nat_lt, List, [], ◌∷◌, ◌++◌, refl, sym, ap, ◌∙◌, subst, arith, ⊎_elim, ◌⊎◌, inl, inr}
+use Rattle.std.proofs.Common.{◌≡◌, ◌==◌, ℕ, suc, ◌-◌, ◌<◌, ◌≤◌, max, Bool, true, false, not, cond, nat_lt, List, [], ◌∷◌, ◌++◌, refl, sym, ap, ◌∙◌, arith}
 use Rattle.std.specs.Char.{to_ascii_uppercase}
 use Rattle.std.proofs.lemmas.Bool.{cond_both, eqb-true, ne_eqb, ltb-false}
 use Rattle.f77_expr.specs.Piece.{Open, nothing_open, open_after, deepest_from, bracket_depth}
@@ -8,10 +8,7 @@ use Rattle.fixed_form.specs.Statement.{kept, inside_after, text, text_from}
 -- a letter in upper case is no bracket and no apostrophe, and neither is the letter
 upper_same : (k c : ℕ) → k < 65 → (to_ascii_uppercase c == k) ≡ (c == k)
 upper_same k c small =
-    cond_both (nat_lt c 97) c (cond (nat_lt c 123) (c - 32) c) (λ x. (x == k) ≡ (c == k)) (λ below. refl) (λ above.
-    cond_both (nat_lt c 123) (c - 32) c (λ x. (x == k) ≡ (c == k)) (λ letter.
-    let least : 97 ≤ c = ltb-false c 97 above in
-    ne_eqb (c - 32) k (λ e. omega (arith, e, least, small)) ∙ sym (ne_eqb c k (λ e. omega (arith, e, least, small)))) (λ other. refl))
+    grind (arith, cond_both (nat_lt c 97) c (cond (nat_lt c 123) (c - 32) c), cond_both (nat_lt c 123) (c - 32) c, ltb-false c 97, ne_eqb (c - 32) k, ne_eqb c k)
 
 -- what is open after a character, by tests of it
 abbrev opened : Open → (quote left right : Bool) → Open
@@ -19,17 +16,10 @@ opened o quote left right =
     cond quote (record { quoted = not o.quoted; brackets = o.brackets }) (cond o.quoted o (cond left (record { quoted = false; brackets = suc o.brackets }) (cond right (record { quoted = false; brackets = o.brackets - 1 }) o)))
 
 upper_opens : (o : Open) (c : ℕ) → open_after o (to_ascii_uppercase c) ≡ open_after o c
-upper_opens o c =
-    ap (λ b. opened o b (to_ascii_uppercase c == 40) (to_ascii_uppercase c == 41)) (upper_same 39 c (omega arith))
-    ∙ ap (λ b. opened o (c == 39) b (to_ascii_uppercase c == 41)) (upper_same 40 c (omega arith))
-    ∙ ap (λ b. opened o (c == 39) (c == 40) b) (upper_same 41 c (omega arith))
+upper_opens o c = grind (arith, upper_same 39 c, upper_same 40 c, upper_same 41 c)
 
 quoted_by : (quoted : Bool) (brackets : ℕ) (quote left right : Bool) → (opened (record { quoted = quoted; brackets = brackets }) quote left right).quoted ≡ cond quote (not quoted) quoted
-quoted_by quoted brackets true left right = refl
-quoted_by true brackets false left right = refl
-quoted_by false brackets false true right = refl
-quoted_by false brackets false false true = refl
-quoted_by false brackets false false false = refl
+quoted_by quoted brackets h left right = grind arith
 
 quoted_after : (o : Open) (c : ℕ) → (open_after o c).quoted ≡ inside_after o.quoted c
 quoted_after o c = quoted_by o.quoted o.brackets (c == 39) (c == 40) (c == 41)
@@ -41,22 +31,7 @@ deepest_least o (c ∷ xs) = omega arith
 -- what is kept of a character, and a text after it
 kept_depth : (quoted : Bool) (brackets c : ℕ) (rest : List ℕ) → deepest_from (record { quoted = quoted; brackets = brackets }) (kept quoted c ++ rest) ≡ max brackets (deepest_from (open_after (record { quoted = quoted; brackets = brackets }) c) rest)
 kept_depth true brackets c rest = refl
-kept_depth false brackets c rest =
-    ⊎_elim
-    (λ (is : c ≡ 32).
-    let o : Open = record { quoted = false; brackets = brackets } in
-    let least = deepest_least o rest in
-    let same : deepest_from o rest ≡ max brackets (deepest_from o rest) = omega (arith, least) in
-    subst (λ d. deepest_from o (kept false d ++ rest) ≡ max brackets (deepest_from (open_after o d) rest)) (sym is) same)
-    (λ (other : (c == 32) ≡ false).
-    let o : Open = record { quoted = false; brackets = brackets } in
-    ap (λ (b : Bool). deepest_from o (cond b [] (to_ascii_uppercase c ∷ []) ++ rest)) other
-    ∙ ap (λ p. max brackets (deepest_from p rest)) (upper_opens o c))
-    (blank (c == 32) refl)
-  where
-    blank : (b : Bool) → (c == 32) ≡ b → (c ≡ 32) ⊎ ((c == 32) ≡ false)
-    blank true e = inl (eqb-true c 32 e)
-    blank false e = inr e
+kept_depth false brackets c rest = grind (arith, deepest_least, upper_opens, eqb-true)
 
 folded_from : (o : Open) (xs : List ℕ) → deepest_from o (text_from o.quoted xs) ≡ deepest_from o xs
 folded_from o [] = refl

@@ -1,5 +1,5 @@
 -- Texts without what is dropped and folded: one after another, and with blanks behind.
-use Rattle.std.proofs.Common.{◌≡◌, ℕ, zero, suc, ◌+◌, ◌-◌, ◌≤◌, Bool, false, List, [], ◌∷◌, ◌++◌, length, take, replicate, refl, sym, ap, ◌∙◌, subst, arith, append_assoc, append-nil}
+use Rattle.std.proofs.Common.{◌≡◌, ℕ, zero, suc, ◌+◌, ◌-◌, ◌≤◌, Bool, false, List, [], ◌∷◌, ◌++◌, length, take, replicate, refl, ap, ◌∙◌, subst, arith, append_assoc, append-nil}
 use Rattle.std.specs.List.{fold}
 use Rattle.std.proofs.Math.Seq.{take-append-add}
 use Rattle.std.proofs.lemmas.List.{take-replicate}
@@ -8,8 +8,7 @@ use Rattle.fixed_form.specs.Statement.{kept, inside_after, text, text_from}
 pub text_from-append : (inside : Bool) (xs ys : List ℕ) → text_from inside (xs ++ ys) ≡ text_from inside xs ++ text_from (fold inside_after inside xs) ys
 text_from-append inside [] ys = refl
 text_from-append inside (x ∷ xs) ys =
-    ap (λ t. kept inside x ++ t) (text_from-append (inside_after inside x) xs ys)
-    ∙ sym (append_assoc (kept inside x) (text_from (inside_after inside x) xs) (text_from (fold inside_after (inside_after inside x) xs) ys))
+    grind (arith, text_from-append (inside_after inside x) xs ys, append_assoc (kept inside x) (text_from (inside_after inside x) xs) (text_from (fold inside_after (inside_after inside x) xs) ys))
 
 text_of_blanks : (n : ℕ) → text (replicate n 32) ≡ []
 text_of_blanks zero = refl

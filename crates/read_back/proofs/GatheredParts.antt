@@ -15,6 +15,7 @@ use Rattle.read_back.specs.PrintedStatements.{LabelledStatement, declaration, wr
 use Rattle.read_back.specs.SourceStatements.{statements_read}
 use Rattle.read_back.proofs.DeclaredEach.{mapped_each}
 use Rattle.read_back.proofs.StatementParts.{HoldsOfRead, holds_of_read, read_stmt, parts_of_all}
+use Rattle.std.proofs.Common.{arith}
 
 module _ {X : Type 0} (f : Stmt → List X) where
   abbrev pub of_written : List WrittenStatement → List X
@@ -39,10 +40,7 @@ module _ {X : Type 0} (f : Stmt → List X) where
 
     none_from : (places : List ℕ) → of_all (flat_map (written_at q.names flat) places) ≡ []
     none_from [] = refl
-    none_from (place ∷ places) =
-        flat_map-append (λ s. f (read_stmt s)) (written_at q.names flat place) (flat_map (written_at q.names flat) places)
-        ∙ ap (λ xs. xs ++ of_all (flat_map (written_at q.names flat) places)) (none_in place (slice_get flat place))
-        ∙ none_from places
+    none_from (place ∷ places) = grind (arith, flat_map-append, read_stmt, none_in place (slice_get flat place), none_from places)
 
     -- all of it comes from COMMON, EQUIVALENCE and DATA, in this order
     pub gathered_of : flat_map (λ (s : Labelled). f s.stmt) (statements_read q flat) ≡ of_written (commons q.commons) ++ (of_written (map group_statement q.groups) ++ of_written (map init_statement q.inits))

@@ -1,16 +1,16 @@
 -- Lines that make statements without a fault: an initial line, and the continuation lines after it.
-use Rattle.std.proofs.Common.{◌≡◌, ℕ, suc, ◌+◌, ◌<◌, ◌≤◌, Bool, true, false, not, cond, leb, eqb, List, [], ◌∷◌, ◌++◌, length, map, Option, Some, None, refl, ap, ◌∙◌, arith}
+use Rattle.std.proofs.Common.{◌≡◌, ℕ, suc, ◌+◌, ◌<◌, ◌≤◌, Bool, true, false, cond, leb, eqb, List, [], ◌∷◌, ◌++◌, length, map, Option, None, refl, ap, ◌∙◌, arith}
 use Rattle.std.specs.Prelude.{flat_map, codes}
 use Rattle.std.specs.List.{filter}
 use Rattle.std.specs.Option.{option_or}
 use Rattle.std.proofs.lemmas.Bool.{lt-leb, ne_eqb}
 use Rattle.fixed_form.specs.declared.form_end.FormEnd.{FormEnd}
-use Rattle.fixed_form.specs.declared.form_end.FormEnd.TheVariants.{BadByte, BadLabelField, StrayContinuation, TooManyContinuations, TooManyStatements}
 use Rattle.fixed_form.specs.declared.raw_stmt.RawStmt.{RawStmt}
 use Rattle.fixed_form.specs.Columns.{kind, is_blank, label_field, has_bad_label, has_bad_byte}
 use Rattle.fixed_form.specs.SourceLine.{SourceLine, is_initial_kind, is_continuation_kind, is_statement_kind, is_initial_line, is_continuation_line, is_statement_line}
 use Rattle.fixed_form.specs.Statement.{continuations, statement_of, statements_of}
-use Rattle.fixed_form.specs.Fault.{initial_count, continuation_count, fault_of_kind, fault, first_fault}
+use Rattle.fixed_form.specs.Fault.{initial_count, continuation_count, fault, first_fault}
+use Rattle.std.proofs.lemmas.Grind.{elements}
 
 -- cards of the two kinds of line that statements have
 abbrev pub initial_card : List ℕ
@@ -61,24 +61,17 @@ block_statement b = statement_of b.initial b.more
 -- ---- faults
 
 none_of_three : (a b c : Bool) (x y z : Option FormEnd) → a ≡ false → b ≡ false → c ≡ false → cond a x (cond b y (cond c z None)) ≡ None
-none_of_three true b c x y z p q r = absurd cc
-none_of_three false true c x y z p q r = absurd cc
-none_of_three false false true x y z p q r = absurd cc
-none_of_three false false false x y z p q r = refl
+none_of_three h b c x y z p q r = cc
 
 none_of_four : (a b c d : Bool) (w x y z : Option FormEnd) → a ≡ false → b ≡ false → c ≡ false → d ≡ false → cond a w (cond b x (cond c y (cond d z None))) ≡ None
 none_of_four true b c d w x y z p q r s = absurd cc
 none_of_four false b c d w x y z p q r s = none_of_three b c d x y z q r s
 
 initial_fault : (above : List SourceLine) (line : SourceLine) → IsInitial line → initial_count above < 4000 → fault above line ≡ None
-initial_fault above line is few =
-    ap (λ k. fault_of_kind k above line) is.of_kind
-    ∙ none_of_three (has_bad_byte line.card) (has_bad_label line.card) (leb 4000 (initial_count above)) (Some (BadByte line.number)) (Some (BadLabelField line.number)) (Some (TooManyStatements line.number)) is.characters is.labelled (lt-leb 4000 (initial_count above) few)
+initial_fault above line is few = grind (arith, elements, none_of_three, leb, lt-leb)
 
 continuation_fault : (above : List SourceLine) (line : SourceLine) → IsContinuation line → 0 < initial_count above → continuation_count above < 19 → fault above line ≡ None
-continuation_fault above line is some few =
-    ap (λ k. fault_of_kind k above line) is.of_kind
-    ∙ none_of_four (has_bad_byte line.card) (not (is_blank (label_field line.card))) (eqb (initial_count above) 0) (leb 19 (continuation_count above)) (Some (BadByte line.number)) (Some (BadLabelField line.number)) (Some (StrayContinuation line.number)) (Some (TooManyContinuations line.number)) is.characters (ap not is.unlabelled) (ne_eqb (initial_count above) 0 (λ e. omega (arith, e))) (lt-leb 19 (continuation_count above) few)
+continuation_fault above line is some few = grind (arith, elements, none_of_four, eqb, leb, ne_eqb, lt-leb)
 
 -- ---- counts
 
@@ -107,14 +100,10 @@ count_continuation : (above : List SourceLine) (line : SourceLine) → IsContinu
 count_continuation above line is = ap (λ (b : Bool). length (cond b (line ∷ filter is_initial_line above) (filter is_initial_line above))) (goes_on_initial line is)
 
 initial_none : (above : List SourceLine) (line : SourceLine) → IsInitial line → continuation_count (line ∷ above) ≡ 0
-initial_none above line is =
-    ap (λ (b : Bool). length (continuations (cond b (line ∷ filter is_statement_line above) (filter is_statement_line above)))) (initial_stands line is)
-    ∙ ap (λ (b : Bool). length (cond b (line ∷ continuations (filter is_statement_line above)) [])) (initial_goes_on line is)
+initial_none above line is = cc
 
 continuation_more : (above : List SourceLine) (line : SourceLine) → IsContinuation line → continuation_count (line ∷ above) ≡ suc (continuation_count above)
-continuation_more above line is =
-    ap (λ (b : Bool). length (continuations (cond b (line ∷ filter is_statement_line above) (filter is_statement_line above)))) (goes_on_stands line is)
-    ∙ ap (λ (b : Bool). length (cond b (line ∷ continuations (filter is_statement_line above)) [])) (goes_on line is)
+continuation_more above line is = cc
 
 -- ---- lines below others
 
@@ -130,10 +119,7 @@ onto_count above (line ∷ lines) are = onto_count (line ∷ above) lines are.1 
 continued : (above lines rest : List SourceLine) → AreContinuations lines → 0 < initial_count above → continuation_count above + length lines ≤ 19 → first_fault above (lines ++ rest) ≡ first_fault (onto above lines) rest
 continued above [] rest are some few = refl
 continued above (line ∷ lines) rest are some few =
-    let same = count_continuation above line are.0 in
-    let more = continuation_more above line are.0 in
-    ap (λ f. option_or f (first_fault (line ∷ above) (lines ++ rest))) (continuation_fault above line are.0 some (omega (arith, few)))
-    ∙ continued (line ∷ above) lines rest are.1 (omega (arith, some, same)) (omega (arith, few, more))
+    grind (arith, count_continuation above line are.0, continuation_more above line are.0, continuation_fault above line are.0 some, continued (line ∷ above) lines rest are.1)
 
 pub no_fault : (above : List SourceLine) (bs : List Block) → AreBlocks bs → initial_count above + length bs ≤ 4000 → first_fault above (all_lines bs) ≡ None
 no_fault above [] are few = refl
@@ -152,16 +138,11 @@ no_fault above (b ∷ bs) are few =
 
 stand_more : (lines rest : List SourceLine) → AreContinuations lines → filter is_statement_line (lines ++ rest) ≡ lines ++ filter is_statement_line rest
 stand_more [] rest are = refl
-stand_more (line ∷ lines) rest are =
-    ap (λ (b : Bool). cond b (line ∷ filter is_statement_line (lines ++ rest)) (filter is_statement_line (lines ++ rest))) (goes_on_stands line are.0)
-    ∙ ap (λ ls. line ∷ ls) (stand_more lines rest are.1)
+stand_more (line ∷ lines) rest are = grind (arith, goes_on_stands line are.0, stand_more lines rest are.1)
 
 pub all_stand : (bs : List Block) → AreBlocks bs → filter is_statement_line (all_lines bs) ≡ all_lines bs
 all_stand [] are = refl
-all_stand (b ∷ bs) are =
-    let rest = b.more ++ all_lines bs in
-    ap (λ (t : Bool). cond t (b.initial ∷ filter is_statement_line rest) (filter is_statement_line rest)) (initial_stands b.initial are.0.initial)
-    ∙ ap (λ ls. b.initial ∷ ls) (stand_more b.more (all_lines bs) are.0.more ∙ ap (λ ls. b.more ++ ls) (all_stand bs are.1))
+all_stand (b ∷ bs) are = grind (arith, initial_stands b.initial are.0.initial, stand_more b.more (all_lines bs) are.0.more, all_stand bs are.1)
 
 -- ---- statements
 
@@ -171,19 +152,13 @@ none_continued (b ∷ bs) are = ap (λ (t : Bool). cond t (b.initial ∷ continu
 
 taken : (lines rest : List SourceLine) → AreContinuations lines → continuations rest ≡ [] → continuations (lines ++ rest) ≡ lines
 taken [] rest are none = none
-taken (line ∷ lines) rest are none =
-    ap (λ (t : Bool). cond t (line ∷ continuations (lines ++ rest)) []) (goes_on line are.0) ∙ ap (λ ls. line ∷ ls) (taken lines rest are.1 none)
+taken (line ∷ lines) rest are none = grind (arith, goes_on line are.0, taken lines rest are.1 none)
 
 passed : (lines rest : List SourceLine) → AreContinuations lines → statements_of (lines ++ rest) ≡ statements_of rest
 passed [] rest are = refl
-passed (line ∷ lines) rest are =
-    ap (λ (t : Bool). cond t (statement_of line (continuations (lines ++ rest)) ∷ statements_of (lines ++ rest)) (statements_of (lines ++ rest))) (goes_on_initial line are.0)
-    ∙ passed lines rest are.1
+passed (line ∷ lines) rest are = grind (arith, goes_on_initial line are.0, passed lines rest are.1)
 
 pub block_statements : (bs : List Block) → AreBlocks bs → statements_of (all_lines bs) ≡ map block_statement bs
 block_statements [] are = refl
 block_statements (b ∷ bs) are =
-    let rest = b.more ++ all_lines bs in
-    ap (λ (t : Bool). cond t (statement_of b.initial (continuations rest) ∷ statements_of rest) (statements_of rest)) (initial_true b.initial are.0.initial)
-    ∙ ap (λ ls. statement_of b.initial ls ∷ statements_of rest) (taken b.more (all_lines bs) are.0.more (none_continued bs are.1))
-    ∙ ap (λ ss. block_statement b ∷ ss) (passed b.more (all_lines bs) are.0.more ∙ block_statements bs are.1)
+    grind (arith, initial_true b.initial are.0.initial, taken b.more (all_lines bs) are.0.more (none_continued bs are.1), none_continued bs are.1, passed b.more (all_lines bs) are.0.more, block_statements bs are.1)

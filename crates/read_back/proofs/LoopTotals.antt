@@ -1,5 +1,5 @@
 -- A program that has the executables of flat statements has as many DOs as these.
-use Rattle.std.proofs.Common.{◌≡◌, ℕ, zero, suc, ◌+◌, ◌<◌, ◌≤◌, Bool, true, false, cond, List, [], ◌∷◌, length, take, refl, sym, ap, ◌∙◌, ⊎_elim, arith, Option, Some, None}
+use Rattle.std.proofs.Common.{◌≡◌, ℕ, zero, suc, ◌+◌, ◌<◌, ◌≤◌, Bool, true, false, cond, List, [], ◌∷◌, length, take, refl, ap, ◌∙◌, ⊎_elim, arith, Option, Some, None}
 use Rattle.std.specs.Prelude.{slice_get}
 use Rattle.std.specs.List.{count_by}
 use Rattle.std.proofs.lemmas.Bool.{cases_Bool, cases_lt}
@@ -13,7 +13,7 @@ use Rattle.flat_programs.specs.declared.statements.Flat.TheVariants.{Mark, Assig
 use Rattle.flat_programs.specs.declared.statements.FlatLine.{FlatLine}
 use Rattle.flat_programs.specs.ExecutablePlaces.{IsExecutableOfSome}
 use Rattle.flat_programs.specs.Executables.{executables, first_of, leading, following, increment}
-use Rattle.flat_programs.specs.Marks.{is_loop, loop_at, loop_count, loop_to, is_end, mark_at}
+use Rattle.flat_programs.specs.Marks.{is_loop, loop_at, loop_count}
 use Rattle.read_back.proofs.MarkPlaces.{take_next, take_all}
 use Rattle.read_back.proofs.PrintedPlaces.{get_some}
 
@@ -29,9 +29,7 @@ module _ (flat : List FlatLine) where
   begins l = is_loop l.stmt
 
   pub loops_next : (place : ℕ) (l : FlatLine) → slice_get flat place ≡ Some l → loop_at flat (suc place) ≡ loop_at flat place + bit (is_loop l.stmt)
-  loops_next place l there =
-      let one : count_by begins (l ∷ []) ≡ bit (is_loop l.stmt) = omega arith in
-      ap (count_by begins) (take_next flat place l there) ∙ count-append begins (take place flat) (l ∷ []) ∙ ap (λ n. loop_at flat place + n) one
+  loops_next place l there = grind (arith, bit (is_loop l.stmt), take_next flat place l there, count-append begins (take place flat) (l ∷ []))
 
   -- a DO has a number below their count
   below_count : (place : ℕ) (l : FlatLine) → slice_get flat place ≡ Some l → is_loop l.stmt ≡ true → loop_at flat place < loop_count flat
@@ -45,15 +43,7 @@ module _ (flat : List FlatLine) where
     number : loop.number ≡ loop_at flat place
 
   begun_by : (place : ℕ) (stmt : Flat) (loop : Loop) → begun (leading flat place stmt) ≡ Some loop → IsBegun place stmt loop
-  begun_by place Mark loop is = absurd cc
-  begun_by place (Assignment target value) loop is = absurd cc
-  begun_by place (Output items) loop is = absurd cc
-  begun_by place (LogicalIf condition target) loop is = absurd cc
-  begun_by place (ArithmeticIf value below at above) loop is = absurd cc
-  begun_by place (ComputedGoTo value targets) loop is = absurd cc
-  begun_by place (DoLoop end var first last step) loop is = let same : loop_at flat place ≡ loop.number = cc in record { is = refl; number = sym same }
-  begun_by place (Jump target) loop is = absurd cc
-  begun_by place Finish loop is = absurd cc
+  begun_by place h loop is = grind arith
 
   -- the executable after the first one begins none
   none_if : (ends : Bool) (head next : ℕ) (kind : ExecKind) (loop : Loop) → cond ends (Some (increment flat head next)) None ≡ Some kind → begun kind ≡ Some loop → ⊥
@@ -61,19 +51,7 @@ module _ (flat : List FlatLine) where
   none_if false head next kind loop is starts = absurd cc
 
   none_after : (place : ℕ) (stmt : Flat) (kind : ExecKind) (loop : Loop) → following flat place stmt ≡ Some kind → begun kind ≡ Some loop → ⊥
-  none_after place Mark kind loop is starts = none_if (is_end flat (mark_at flat place)) (loop_to flat (mark_at flat place)) (first_of flat (place + 1)) kind loop is starts
-  none_after place (Assignment target value) kind loop is starts = absurd cc
-  none_after place (Output items) kind loop is starts = absurd cc
-  none_after place (LogicalIf condition target) kind loop is starts = let some : Some loop ≡ None = sym starts ∙ ap (λ (o : Option ExecKind). begun_of o) (sym is) in absurd cc
-    where
-      begun_of : Option ExecKind → Option Loop
-      begun_of None = None
-      begun_of (Some k) = begun k
-  none_after place (ArithmeticIf value below at above) kind loop is starts = absurd cc
-  none_after place (ComputedGoTo value targets) kind loop is starts = absurd cc
-  none_after place (DoLoop end var first last step) kind loop is starts = absurd cc
-  none_after place (Jump target) kind loop is starts = absurd cc
-  none_after place Finish kind loop is starts = absurd cc
+  none_after place h kind loop is starts = grind (arith, none_if)
 
   module _ (stand : StandFirst) (only : AreOnly) (count : ℕ) (are : AreLoops (executables flat) count) where
     started : (place : ℕ) (l : FlatLine) → slice_get flat place ≡ Some l → (stmt : Flat) → l.stmt ≡ stmt → is_loop stmt ≡ true → loop_at flat place < count

@@ -1,5 +1,5 @@
 -- The places of the marks of a flat program by their numbers: a number is that of one mark.
-use Rattle.std.proofs.Common.{◌≡◌, ℕ, zero, suc, ◌+◌, ◌-◌, ◌<◌, ◌≤◌, Bool, true, false, cond, List, [], ◌∷◌, ◌++◌, length, filter, take, refl, sym, ap, ◌∙◌, subst, ⊎_elim, arith, Some, append-nil}
+use Rattle.std.proofs.Common.{◌≡◌, ℕ, zero, suc, ◌+◌, ◌<◌, ◌≤◌, Bool, true, false, cond, List, [], ◌∷◌, ◌++◌, length, filter, take, refl, sym, ap, ◌∙◌, subst, ⊎_elim, arith, Some, append-nil}
 use Rattle.std.specs.Prelude.{slice_get, slice_index}
 use Rattle.std.specs.List.{count_by, range_with_len}
 use Rattle.std.proofs.lemmas.Bool.{cases_lt}
@@ -36,9 +36,7 @@ module _ (flat : List FlatLine) where
   counted n = count_by (λ (l : FlatLine). is_mark l.stmt) (take n flat)
 
   counted-next : (n : ℕ) (l : FlatLine) → slice_get flat n ≡ Some l → counted (suc n) ≡ counted n + bit (is_mark l.stmt)
-  counted-next n l is =
-      let one : count_by (λ (s : FlatLine). is_mark s.stmt) (l ∷ []) ≡ bit (is_mark l.stmt) = omega arith in
-      ap (count_by (λ (s : FlatLine). is_mark s.stmt)) (take_next flat n l is) ∙ count-append (λ (s : FlatLine). is_mark s.stmt) (take n flat) (l ∷ []) ∙ ap (λ m. counted n + m) one
+  counted-next n l is = grind (arith, bit (is_mark l.stmt), take_next flat n l is, count-append)
 
   -- a later mark has a greater number
   counted-rises : (j n : ℕ) (l : FlatLine) → slice_get flat j ≡ Some l → is_mark l.stmt ≡ true → j < n → n ≤ length flat → counted j < counted n
@@ -76,19 +74,7 @@ module _ (flat : List FlatLine) where
     each : (j : ℕ) → j < counted n → IsNext n j (slice_index (places n) j)
 
   places-step : (n : ℕ) (l : FlatLine) → slice_get flat n ≡ Some l → ArePlaces n → (b : Bool) → is_mark l.stmt ≡ b → ArePlaces (suc n)
-  places-step n l is old false other =
-      let same : places (suc n) ≡ places n = places-next n ∙ ap (λ b. places n ++ cond b (n ∷ []) []) (ap is_mark_in is ∙ other) ∙ append-nil (places n) in
-      let count : counted (suc n) ≡ counted n + 0 = counted-next n l is ∙ ap (λ b. counted n + bit b) other in
-      let size = old.size in
-      record {
-        size = ap length same ∙ omega (arith, size, count);
-        each = λ j lt.
-            let place = slice_index (places n) j in
-            let e : place ≡ slice_index (places (suc n)) j = ap (λ xs. slice_index xs j) (sym same) in
-            let got = old.each j (omega (arith, lt, count)) in
-            let less = got.within in
-            subst (IsNext (suc n) j) e (record { within = omega (arith, less); marks = got.marks; count = got.count });
-      }
+  places-step n l is old false other = grind (arith, places-next n, append-nil (places n), counted-next n l is, bit)
   places-step n l is old true marks =
       let mark : is_mark_in (slice_get flat n) ≡ true = ap is_mark_in is ∙ marks in
       let same : places (suc n) ≡ places n ++ n ∷ [] = places-next n ∙ ap (λ b. places n ++ cond b (n ∷ []) []) mark in
@@ -119,14 +105,7 @@ module _ (flat : List FlatLine) where
       places-step n found.0 found.1 (are_places n (omega (arith, le))) (is_mark found.0.stmt) refl
 
   pub mark_of : (number : ℕ) → IsNumber (mark_count flat) number → IsMarkAt flat number (place_of flat number)
-  mark_of number is =
-      let all : counted (length flat) ≡ mark_count flat = ap (count_by (λ (l : FlatLine). is_mark l.stmt)) (take_all flat) in
-      let least = is.least in
-      let most = is.most in
-      let got = (are_places (length flat) (omega arith)).each (number - 1) (omega (arith, all, least, most)) in
-      let found = get_some flat (place_of flat number) got.within in
-      let count = got.count in
-      record { l = found.0; there = found.1; marks = ap is_mark_in (sym found.1) ∙ got.marks; number_is = omega (arith, count, least) }
+  mark_of number is = grind (arith, take_all flat, are_places (length flat), get_some flat (place_of flat number))
 
   -- a mark stands at the place of its number
   pub place_of-mark : (place : ℕ) (l : FlatLine) → slice_get flat place ≡ Some l → is_mark l.stmt ≡ true → place_of flat (mark_at flat place) ≡ place

@@ -4,7 +4,7 @@ use Rattle.std.specs.Prelude.{codes}
 use Rattle.std.specs.List.{list_all, range_with_len, fold}
 use Rattle.std.proofs.lemmas.Bool.{and_parts}
 use Rattle.std.proofs.lemmas.List.{drop-append-le, drop-drop}
-use Rattle.fixed_form.specs.Columns.{card, is_character, statement_field, label as label_in}
+use Rattle.fixed_form.specs.Columns.{card, is_character, statement_field}
 use Rattle.fixed_form.specs.SourceLine.{numbered, numbered_from}
 use Rattle.fixed_form.specs.Statement.{joined, inside_after, text}
 use Rattle.read_back.proofs.FoldedTexts.{text_padded}
@@ -46,9 +46,7 @@ next_lines xs k n = map (next_line xs) (range_with_len k n)
 next_fine : (xs : List ℕ) (k n number : ℕ) → list_all is_character xs ≡ true → AreContinuations (numbered_from number (next_lines xs k n))
 next_fine xs k zero number all = tt
 next_fine xs k (suc n) number all =
-    let here = piece xs k in
-    let fine : list_all is_character here ≡ true = all_taken is_character 66 (drop (66 * k) xs) (all_dropped is_character (66 * k) xs all) in
-    (record { of_kind = next_kind here; characters = next_characters here fine; unlabelled = next_unlabelled here }, next_fine xs (k + 1) n (number + 1) all)
+    grind (arith, all_taken is_character 66 (drop (66 * k) xs) (all_dropped is_character (66 * k) xs all), all_dropped is_character (66 * k) xs all, next_kind, next_characters, next_unlabelled, next_fine xs (k + 1) n (number + 1) all)
 
 next_count : (xs : List ℕ) (k n number : ℕ) → length (numbered_from number (next_lines xs k n)) ≡ n
 next_count xs k zero number = refl
@@ -56,8 +54,7 @@ next_count xs k (suc n) number = ap suc (next_count xs (k + 1) n (number + 1))
 
 -- a piece as its line has it, where so many blanks follow the text
 piece_padded : (xs : List ℕ) (k blanks : ℕ) → 66 * k ≤ length xs → 66 ≤ blanks → field (piece xs k) ≡ piece (xs ++ replicate blanks 32) k
-piece_padded xs k blanks inside le =
-    field_padded (drop (66 * k) xs) blanks le ∙ ap (take 66) (sym (drop-append-le (66 * k) xs (replicate blanks 32) inside))
+piece_padded xs k blanks inside le = grind (arith, field_padded (drop (66 * k) xs) blanks le, drop-append-le (66 * k) xs (replicate blanks 32) inside)
 
 next_joined : (xs : List ℕ) (k n number blanks : ℕ) → 66 ≤ blanks → 66 * (k + n) ≤ length xs + 66 → joined (numbered_from number (next_lines xs k n)) ≡ take (66 * n) (drop (66 * k) (xs ++ replicate blanks 32))
 next_joined xs k zero number blanks le inside = refl
@@ -83,18 +80,7 @@ block_of columns xs number n = record { initial = numbered number ((columns ++ c
 
 pub block_fine : (label : ℕ) (columns : List ℕ) (c : ℕ) (xs : List ℕ) (number n : ℕ) → TellsLabel label columns → (c == 32) ≡ false → list_all is_character (c ∷ xs) ≡ true → n ≤ 19 → IsBlock (block_of columns (c ∷ xs) number n)
 block_fine label columns c xs number n tells visible all few =
-    let start = take 65 xs in
-    let fine : list_all is_character (c ∷ start) ≡ true = all_taken is_character 66 (c ∷ xs) all in
-    let count = next_count (c ∷ xs) 1 n (number + 1) in
-    record {
-      initial = record {
-        of_kind = first_kind columns tells.five c start tells.labels visible;
-        characters = first_characters columns tells.five (c ∷ start) tells.characters fine;
-        labelled = first_labelled columns tells.five (c ∷ start) tells.labels tells.good;
-      };
-      more = next_fine (c ∷ xs) 1 n (number + 1) all;
-      few = omega (arith, count, few);
-    }
+    grind (arith, all_taken is_character 66 (c ∷ xs) all, next_count (c ∷ xs) 1 n (number + 1), first_kind columns tells.five c, first_characters columns tells.five, first_labelled columns tells.five, next_fine (c ∷ xs) 1 n (number + 1) all)
 
 block_text : (columns xs : List ℕ) (number n : ℕ) → length columns ≡ 5 → 66 * n ≤ length xs → length xs ≤ 66 * suc n → fold inside_after false xs ≡ false → text (joined (numbered_from number (statement_lines columns xs n))) ≡ text xs
 block_text columns xs number n five least most closed =
@@ -111,6 +97,4 @@ block_text columns xs number n five least most closed =
 -- the statement that they make
 pub block_reads : (label : ℕ) (columns xs : List ℕ) (number n : ℕ) → TellsLabel label columns → 66 * n ≤ length xs → length xs ≤ 66 * suc n → fold inside_after false xs ≡ false → block_statement (block_of columns xs number n) ≡ record { label = label; line = number; text = text xs }
 block_reads label columns xs number n tells least most closed =
-    let here = label_in (card ((columns ++ codes " ") ++ take 66 xs)) in
-    ap (λ t. record { label = here; line = number; text = t }) (block_text columns xs number n tells.five least most closed)
-    ∙ ap (λ l. record { label = l; line = number; text = text xs }) (first_label columns tells.five (take 66 xs) ∙ tells.is)
+    grind (arith, block_text columns xs number n tells.five least most closed, first_label columns tells.five (take 66 xs))

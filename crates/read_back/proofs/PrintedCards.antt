@@ -1,15 +1,16 @@
 -- The cards of printed lines: their first six columns, and what they have of the text after them.
-use Rattle.std.proofs.Common.{◌≡◌, ℕ, zero, suc, ◌+◌, ◌≤◌, Bool, true, false, not, cond, leb, ◌&&◌, ◌||◌, ◌==◌, List, [], ◌∷◌, ◌++◌, length, get_or, take, replicate, refl, sym, ap, ◌∙◌, subst, arith, append_assoc, length-append, ⊎_elim}
+use Rattle.std.proofs.Common.{◌≡◌, ℕ, zero, suc, ◌+◌, ◌≤◌, Bool, true, false, cond, leb, ◌&&◌, ◌||◌, ◌==◌, List, [], ◌∷◌, ◌++◌, length, get_or, take, replicate, refl, sym, ap, ◌∙◌, arith, append_assoc, length-append}
 use Rattle.std.specs.Prelude.{codes}
 use Rattle.std.specs.Char.{is_ascii_digit}
 use Rattle.std.specs.List.{list_all, list_any, filter}
 use Rattle.std.proofs.Math.Seq.{take-append-add}
-use Rattle.std.proofs.lemmas.Bool.{and_parts, and_from, or_cases, eqb-true, ne_eqb, leb-true}
+use Rattle.std.proofs.lemmas.Bool.{and_from, eqb-true, ne_eqb, leb-true}
 use Rattle.std.proofs.lemmas.List.{take-replicate, take_at, drop_at, get_or_at, get_or_append_left}
 use Rattle.std.proofs.lemmas.List.Folds.{list_all-append}
 use Rattle.std.proofs.lemmas.List.Sums.{AllPass-from_list_all}
-use Rattle.fixed_form.specs.Columns.{card, column, kind, is_blank, marks_comment, is_character, is_label_character, label_field, statement_field, label, number, has_bad_label, has_bad_byte, is_bad_label_field}
+use Rattle.fixed_form.specs.Columns.{card, column, kind, is_blank, marks_comment, is_character, is_label_character, label_field, statement_field, label, number, has_bad_label, has_bad_byte}
 use Rattle.read_back.proofs.LineBlocks.{initial_card, continuation_card}
+use Rattle.std.proofs.lemmas.Grind.{elements}
 
 -- ---- columns 7 to 72
 
@@ -35,17 +36,14 @@ field_padded ys blanks le = pad_taken 66 ys (replicate 72 32) ∙ pad_same 66 72
 pub all_taken : (p : ℕ → Bool) (n : ℕ) (xs : List ℕ) → list_all p xs ≡ true → list_all p (take n xs) ≡ true
 all_taken p zero xs h = refl
 all_taken p (suc n) [] h = refl
-all_taken p (suc n) (x ∷ xs) h =
-    let both = and_parts (p x) (list_all p xs) h in
-    and_from (p x) (list_all p (take n xs)) both.0 (all_taken p n xs both.1)
+all_taken p (suc n) (x ∷ xs) h = grind (arith, and_from (p x) (list_all p (take n xs)), all_taken p n xs)
 
 all_blanks : (p : ℕ → Bool) (n : ℕ) → p 32 ≡ true → list_all p (replicate n 32) ≡ true
 all_blanks p zero h = refl
 all_blanks p (suc n) h = and_from (p 32) (list_all p (replicate n 32)) h (all_blanks p n h)
 
 all_padded : (p : ℕ → Bool) (k n : ℕ) (xs : List ℕ) → p 32 ≡ true → list_all p xs ≡ true → list_all p (take k (xs ++ replicate n 32)) ≡ true
-all_padded p k n xs blank h =
-    all_taken p k (xs ++ replicate n 32) (list_all-append p xs (replicate n 32) ∙ and_from (list_all p xs) (list_all p (replicate n 32)) h (all_blanks p n blank))
+all_padded p k n xs blank h = grind (arith, elements, all_taken, list_all-append, and_from, all_blanks)
 
 field_characters : (xs : List ℕ) → list_all is_character xs ≡ true → list_all is_character (field xs) ≡ true
 unfolding field
@@ -59,9 +57,7 @@ field_begins c xs = (take 65 (xs ++ replicate 72 32), refl)
 -- ---- cards
 
 padded : (n k : ℕ) (margin xs : List ℕ) → length margin + k ≡ n → take n ((margin ++ xs) ++ replicate n 32) ≡ margin ++ take k (xs ++ replicate n 32)
-padded n k margin xs e =
-    let P : ℕ → Type 0 = λ m. take m (margin ++ (xs ++ replicate n 32)) ≡ margin ++ take k (xs ++ replicate n 32) in
-    ap (take n) (append_assoc margin xs (replicate n 32)) ∙ subst P e (take-append-add margin (xs ++ replicate n 32) k)
+padded n k margin xs e = grind (arith, append_assoc margin xs (replicate n 32), take-append-add margin (xs ++ replicate n 32) k)
 
 card_is : (margin xs : List ℕ) → length margin ≡ 6 → card (margin ++ xs) ≡ margin ++ field xs
 unfolding card field
@@ -85,31 +81,12 @@ pub next_unlabelled : (xs : List ℕ) → is_blank (label_field (card (next_marg
 next_unlabelled xs = ap (λ c. is_blank (label_field c)) (next_card xs)
 
 pub next_characters : (xs : List ℕ) → list_all is_character xs ≡ true → has_bad_byte (card (next_margin ++ xs)) ≡ false
-next_characters xs h =
-    ap has_bad_byte (next_card xs) ∙ ap not (list_all-append is_character next_margin (field xs) ∙ field_characters xs h)
+next_characters xs h = grind (arith, next_card xs, list_all-append is_character next_margin (field xs), field_characters xs h)
 
 -- ---- initial lines
 
 label_not_comment : (c : ℕ) → is_label_character c ≡ true → marks_comment c ≡ false
-label_not_comment c h =
-    ⊎_elim
-    (λ (blank : (c == 32) ≡ true). ap marks_comment (eqb-true c 32 blank))
-    (λ (digit : is_ascii_digit c ≡ true).
-    let most : c ≤ 57 = omega (arith, digit_most c digit) in
-    none_of_three (c == 67) (c == 99) (c == 42) (ne_eqb c 67 (λ e. omega (arith, e, most))) (ne_eqb c 99 (λ e. omega (arith, e, most))) (ne_eqb c 42 (λ e. omega (arith, e, digit_least c digit))))
-    (or_cases (c == 32) (is_ascii_digit c) h)
-  where
-    digit_least : (c : ℕ) → is_ascii_digit c ≡ true → 48 ≤ c
-    digit_least c h = leb-true 48 c (and_parts (leb 48 c) (leb c 57) h).0
-
-    digit_most : (c : ℕ) → is_ascii_digit c ≡ true → c ≤ 57
-    digit_most c h = leb-true c 57 (and_parts (leb 48 c) (leb c 57) h).1
-
-    none_of_three : (a b c : Bool) → a ≡ false → b ≡ false → c ≡ false → (a || b || c) ≡ false
-    none_of_three true b c p q r = absurd cc
-    none_of_three false true c p q r = absurd cc
-    none_of_three false false true p q r = absurd cc
-    none_of_three false false false p q r = refl
+label_not_comment c h = grind (arith, eqb-true, ne_eqb, leb-true 48, leb 48, leb, leb-true)
 
 -- five columns for a label, and a text that begins with another character than a blank
 module _ (columns : List ℕ) (five : length columns ≡ 5) where
@@ -117,8 +94,7 @@ module _ (columns : List ℕ) (five : length columns ≡ 5) where
   margin = columns ++ codes " "
 
   first_card : (xs : List ℕ) → card (margin ++ xs) ≡ columns ++ 32 ∷ field xs
-  first_card xs =
-      card_is margin xs (length-append columns (codes " ") ∙ ap (λ n. n + 1) five) ∙ append_assoc columns (codes " ") (field xs)
+  first_card xs = grind (arith, card_is margin xs, length-append columns (codes " "), append_assoc columns (codes " ") (field xs))
 
   pub first_field : (xs : List ℕ) → statement_field (card (margin ++ xs)) ≡ field xs
   first_field xs =
@@ -131,26 +107,18 @@ module _ (columns : List ℕ) (five : length columns ≡ 5) where
   first_label xs = ap (λ cs. number (filter is_ascii_digit cs)) (first_columns xs)
 
   pub first_labelled : (xs : List ℕ) → list_all is_label_character columns ≡ true → (list_any is_ascii_digit columns && (number (filter is_ascii_digit columns) == 0)) ≡ false → has_bad_label (card (margin ++ xs)) ≡ false
-  first_labelled xs all none =
-      ap is_bad_label_field (first_columns xs) ∙ ap (λ b. not b || (list_any is_ascii_digit columns && (number (filter is_ascii_digit columns) == 0))) all ∙ none
+  first_labelled xs all none = grind (arith, first_columns xs)
 
   pub first_characters : (xs : List ℕ) → list_all is_character columns ≡ true → list_all is_character xs ≡ true → has_bad_byte (card (margin ++ xs)) ≡ false
   first_characters xs all h =
-      ap has_bad_byte (first_card xs)
-      ∙ ap not (list_all-append is_character columns (32 ∷ field xs) ∙ and_from (list_all is_character columns) (list_all is_character (field xs)) all (field_characters xs h))
+      grind (arith, first_card xs, list_all-append is_character columns (32 ∷ field xs), and_from (list_all is_character columns) (list_all is_character (field xs)) all (field_characters xs h), field_characters xs h)
 
   first_column : (c : ℕ) (rest : List ℕ) → list_all is_label_character columns ≡ true → marks_comment (column 1 (columns ++ rest)) ≡ false
   first_column c rest all =
-      let same : get_or (columns ++ rest) 0 0 ≡ get_or columns 0 0 = get_or_append_left columns rest 0 0 (omega (arith, five)) in
-      ap marks_comment same ∙ label_not_comment (get_or columns 0 0) (AllPass-from_list_all is_label_character columns all 0 0 (omega (arith, five)))
+      grind (arith, get_or_append_left columns rest 0 0, label_not_comment (get_or columns 0 0), AllPass-from_list_all is_label_character columns all 0 0)
 
   not_blank : (c : ℕ) (rest : List ℕ) → (c == 32) ≡ false → is_blank (columns ++ 32 ∷ c ∷ rest) ≡ false
-  not_blank c rest other =
-      list_all-append (λ d. d == 32) columns (32 ∷ c ∷ rest) ∙ ap (λ b. is_blank columns && (b && is_blank rest)) other ∙ and_none (is_blank columns)
-    where
-      and_none : (b : Bool) → (b && false) ≡ false
-      and_none true = refl
-      and_none false = refl
+  not_blank c rest other = grind (arith, list_all-append)
 
   pub first_kind : (c : ℕ) (xs : List ℕ) → list_all is_label_character columns ≡ true → (c == 32) ≡ false → kind (card (margin ++ c ∷ xs)) ≡ kind initial_card
   first_kind c xs all other =

@@ -29,6 +29,7 @@ use Rattle.read_back.proofs.FirstFaults.{none_faulty, none_passes}
 use Rattle.read_back.proofs.GatheredParts.{of_written, none_written, gathered_of}
 use Rattle.read_back.proofs.PrintedPlaces.{got_within, get-after, get-map}
 use Rattle.read_back.proofs.StatementParts.{HoldsOfRead}
+use Rattle.std.proofs.lemmas.Grind.{elements}
 
 abbrev Names : Type 0
 Names = List (List ℕ)
@@ -41,17 +42,10 @@ or_true false = refl
 
 fewer_seen : (less more xs : Names) → ((x : List ℕ) → list_any (bytes_eq x) more ≡ false → list_any (bytes_eq x) less ≡ false) → has_repeat bytes_eq more xs ≡ false → has_repeat bytes_eq less xs ≡ false
 fewer_seen less more [] within none = refl
-fewer_seen less more (y ∷ xs) within none =
-    let parts = or_parts (list_any (bytes_eq y) more) (has_repeat bytes_eq (more ++ y ∷ []) xs) none in
-    ap (λ b. b || has_repeat bytes_eq (less ++ y ∷ []) xs) (within y parts.0)
-    ∙ fewer_seen (less ++ y ∷ []) (more ++ y ∷ []) xs (λ x apart.
-    let both = or_parts (list_any (bytes_eq x) more) (list_any (bytes_eq x) (y ∷ [])) (sym (list_any-append (bytes_eq x) more (y ∷ [])) ∙ apart) in
-    list_any-append (bytes_eq x) less (y ∷ []) ∙ ap (λ b. b || list_any (bytes_eq x) (y ∷ [])) (within x both.0) ∙ both.1)
-    parts.1
+fewer_seen less more (y ∷ xs) within none = grind (arith, fewer_seen (less ++ y ∷ []) (more ++ y ∷ []) xs, list_any-append)
 
 fewer : (seen more xs : Names) → has_repeat bytes_eq (seen ++ more) xs ≡ false → has_repeat bytes_eq seen xs ≡ false
-fewer seen more xs none =
-    fewer_seen seen (seen ++ more) xs (λ x apart. (or_parts (list_any (bytes_eq x) seen) (list_any (bytes_eq x) more) (sym (list_any-append (bytes_eq x) seen more) ∙ apart)).0) none
+fewer seen more xs none = grind (arith, fewer_seen seen (seen ++ more) xs, list_any-append)
 
 -- what was seen isn't among them
 none_seen : (seen xs : Names) (x : List ℕ) → has_repeat bytes_eq seen xs ≡ false → list_any (bytes_eq x) seen ≡ true → list_any (bytes_eq x) xs ≡ true → ⊥
@@ -70,11 +64,7 @@ none_seen seen (y ∷ xs) x none was there =
 more_seen : (seen own xs : Names) → has_repeat bytes_eq own xs ≡ false → ((x : List ℕ) → list_any (bytes_eq x) xs ≡ true → list_any (bytes_eq x) seen ≡ false) → has_repeat bytes_eq (seen ++ own) xs ≡ false
 more_seen seen own [] none apart = refl
 more_seen seen own (y ∷ xs) none apart =
-    let parts = or_parts (list_any (bytes_eq y) own) (has_repeat bytes_eq (own ++ y ∷ []) xs) none in
-    let itself : list_any (bytes_eq y) (y ∷ xs) ≡ true = ap (λ b. b || list_any (bytes_eq y) xs) ((bytes_eq-Decides y y).1 refl) in
-    ap (λ b. b || has_repeat bytes_eq ((seen ++ own) ++ y ∷ []) xs) (list_any-append (bytes_eq y) seen own ∙ ap (λ b. b || list_any (bytes_eq y) own) (apart y itself) ∙ parts.0)
-    ∙ ap (λ zs. has_repeat bytes_eq zs xs) (append_assoc seen own (y ∷ []))
-    ∙ more_seen seen (own ++ y ∷ []) xs parts.1 (λ x there. apart x (ap (λ b. bytes_eq x y || b) there ∙ or_true (bytes_eq x y)))
+    grind (arith, bytes_eq-Decides y y, list_any-append (bytes_eq y) seen own, append_assoc seen own (y ∷ []), more_seen seen (own ++ y ∷ []) xs, or_true)
 
 -- names that stand at one place each
 no_repeat : (front back : Names) → ((j k : ℕ) (x : List ℕ) → slice_get (front ++ back) j ≡ Some x → slice_get (front ++ back) k ≡ Some x → j ≡ k) → has_repeat bytes_eq front back ≡ false
@@ -117,11 +107,7 @@ module _ (x : List ℕ) (xs ys : Names) (there : list_any (bytes_eq x) (xs ++ ys
   then_second none = ap (λ b. b || list_any (bytes_eq x) ys) (sym none) ∙ sym (list_any-append (bytes_eq x) xs ys) ∙ there
 
 chosen_if : (b : Bool) (part : CommonPart) (rest chosen : List CommonPart) (x : List ℕ) → (list_any (bytes_eq x) (all_of chosen) ≡ true → list_any (bytes_eq x) (all_of rest) ≡ true) → list_any (bytes_eq x) (all_of (cond b (part ∷ chosen) chosen)) ≡ true → list_any (bytes_eq x) (all_of (part ∷ rest)) ≡ true
-chosen_if true part rest chosen x more there =
-    ⊎_elim
-    (λ (first : list_any (bytes_eq x) (names_of_part part) ≡ true). in_first x (names_of_part part) (all_of rest) first)
-    (λ (none : list_any (bytes_eq x) (names_of_part part) ≡ false). in_second x (names_of_part part) (all_of rest) (more (then_second x (names_of_part part) (all_of chosen) there none)))
-    (cases_Bool (list_any (bytes_eq x) (names_of_part part)))
+chosen_if true part rest chosen x more there = grind (arith, in_first, in_second, then_second)
 chosen_if false part rest chosen x more there = in_second x (names_of_part part) (all_of rest) (more there)
 
 chosen_within : (p : CommonPart → Bool) (parts : List CommonPart) (x : List ℕ) → list_any (bytes_eq x) (all_of (filter p parts)) ≡ true → list_any (bytes_eq x) (all_of parts) ≡ true
@@ -130,15 +116,13 @@ chosen_within p (part ∷ parts) x there = chosen_if (p part) part parts (filter
 
 -- the names of some parts are as different as those of all
 fewer_if : (b : Bool) (seen : Names) (part : CommonPart) (chosen : List CommonPart) → has_repeat bytes_eq seen (names_of_part part) ≡ false → has_repeat bytes_eq (seen ++ names_of_part part) (all_of chosen) ≡ false → has_repeat bytes_eq seen (all_of (cond b (part ∷ chosen) chosen)) ≡ false
-fewer_if true seen part chosen first rest =
-    has_repeat-append bytes_eq seen (names_of_part part) (all_of chosen) ∙ ap (λ b. b || has_repeat bytes_eq (seen ++ names_of_part part) (all_of chosen)) first ∙ rest
+fewer_if true seen part chosen first rest = grind (arith, has_repeat-append bytes_eq seen (names_of_part part) (all_of chosen))
 fewer_if false seen part chosen first rest = fewer seen (names_of_part part) (all_of chosen) rest
 
 fewer_parts : (p : CommonPart → Bool) (seen : Names) (parts : List CommonPart) → has_repeat bytes_eq seen (all_of parts) ≡ false → has_repeat bytes_eq seen (all_of (filter p parts)) ≡ false
 fewer_parts p seen [] none = none
 fewer_parts p seen (part ∷ parts) none =
-    let both = or_parts (has_repeat bytes_eq seen (names_of_part part)) (has_repeat bytes_eq (seen ++ names_of_part part) (all_of parts)) (sym (has_repeat-append bytes_eq seen (names_of_part part) (all_of parts)) ∙ none) in
-    fewer_if (p part) seen part (filter p parts) both.0 (fewer_parts p (seen ++ names_of_part part) parts both.1)
+    grind (arith, has_repeat-append bytes_eq seen (names_of_part part) (all_of parts), fewer_if (p part) seen part (filter p parts), fewer_parts p (seen ++ names_of_part part) parts)
 
 -- a name of these parts is none of those
 apart_if : (a b : Bool) (seen : Names) (part : CommonPart) (rest these those : List CommonPart) (x : List ℕ) → (a ≡ true → b ≡ false) → has_repeat bytes_eq (seen ++ names_of_part part) (all_of rest) ≡ false → (list_any (bytes_eq x) (all_of these) ≡ true → list_any (bytes_eq x) (all_of rest) ≡ true) → (list_any (bytes_eq x) (all_of those) ≡ true → list_any (bytes_eq x) (all_of rest) ≡ true) → (list_any (bytes_eq x) (all_of these) ≡ true → list_any (bytes_eq x) (all_of those) ≡ false) → list_any (bytes_eq x) (all_of (cond a (part ∷ these) these)) ≡ true → list_any (bytes_eq x) (all_of (cond b (part ∷ those) those)) ≡ false
@@ -164,8 +148,7 @@ apart_if false false seen part rest these those x differ none within other more 
 apart_parts : (p r : CommonPart → Bool) → ((part : CommonPart) → p part ≡ true → r part ≡ false) → (seen : Names) (parts : List CommonPart) (x : List ℕ) → has_repeat bytes_eq seen (all_of parts) ≡ false → list_any (bytes_eq x) (all_of (filter p parts)) ≡ true → list_any (bytes_eq x) (all_of (filter r parts)) ≡ false
 apart_parts p r differ seen [] x none there = refl
 apart_parts p r differ seen (part ∷ parts) x none there =
-    let both = or_parts (has_repeat bytes_eq seen (names_of_part part)) (has_repeat bytes_eq (seen ++ names_of_part part) (all_of parts)) (sym (has_repeat-append bytes_eq seen (names_of_part part) (all_of parts)) ∙ none) in
-    apart_if (p part) (r part) seen part parts (filter p parts) (filter r parts) x (differ part) both.1 (chosen_within p parts x) (chosen_within r parts x) (apart_parts p r differ (seen ++ names_of_part part) parts x both.1) there
+    grind (arith, elements, has_repeat-append, apart_if, chosen_within, apart_parts p r differ (seen ++ names_of_part part) parts x)
 
 -- ---- all blocks
 
@@ -224,27 +207,16 @@ module _ (parts : List CommonPart) (none : has_repeat bytes_eq [] (all_of parts)
   not_below : (k n : ℕ) (part : CommonPart) → n ≤ k → is_continued parts k part ≡ false → (x : List ℕ) → list_any (bytes_eq x) (all_of (of_block part.block)) ≡ true → list_any (bytes_eq x) (names_below n) ≡ false
   not_below k zero part le first x there = refl
   not_below k (suc n) part le first x there =
-      let add : suc n ≡ n + 1 = omega arith in
-      ap (λ m. list_any (bytes_eq x) (names_below m)) add ∙ ap (list_any (bytes_eq x)) (below_next n)
-      ∙ in_neither x (names_below n) (names_at n) (not_below k n part (omega (arith, le)) first x there) (earlier_apart n k part (slice_get parts n) refl (omega (arith, le)) first x there)
+      grind (arith, below_next n, in_neither x (names_below n) (names_at n), not_below k n part, earlier_apart n k part (slice_get parts n))
 
   new_at : (k : ℕ) (part : Option CommonPart) → slice_get parts k ≡ part → has_repeat bytes_eq (names_below k) (names_by k part) ≡ false
   new_at k None is = refl
-  new_at k (Some part) is = by_test (is_continued parts k part) refl
-    where
-      by_test : (b : Bool) → is_continued parts k part ≡ b → has_repeat bytes_eq (names_below k) (cond b [] (all_of (of_block part.block))) ≡ false
-      by_test true first = refl
-      by_test false first =
-          ap (λ seen. has_repeat bytes_eq seen (all_of (of_block part.block))) (sym (append-nil (names_below k)))
-          ∙ more_seen (names_below k) [] (all_of (of_block part.block)) (fewer_parts (λ p. same_block p.block part.block) [] parts none) (not_below k k part (omega arith) first)
+  new_at k (Some part) is = grind (arith, append-nil (names_below k), more_seen (names_below k), fewer_parts, not_below k k part)
 
   new_from : (k n : ℕ) → has_repeat bytes_eq (names_below k) (flat_map names_at (range_with_len k n)) ≡ false
   new_from k zero = refl
   new_from k (suc n) =
-      has_repeat-append bytes_eq (names_below k) (names_at k) (flat_map names_at (range_with_len (k + 1) n))
-      ∙ ap (λ b. b || has_repeat bytes_eq (names_below k ++ names_at k) (flat_map names_at (range_with_len (k + 1) n))) (new_at k (slice_get parts k) refl)
-      ∙ ap (λ seen. has_repeat bytes_eq seen (flat_map names_at (range_with_len (k + 1) n))) (sym (below_next k))
-      ∙ new_from (k + 1) n
+      grind (arith, has_repeat-append bytes_eq (names_below k) (names_at k) (flat_map names_at (range_with_len (k + 1) n)), new_at k (slice_get parts k), below_next k, new_from (k + 1) n)
 
   -- ---- the statements
 
@@ -254,11 +226,7 @@ module _ (parts : List CommonPart) (none : has_repeat bytes_eq [] (all_of parts)
 
   block_named : (ps : List CommonPart) → map (λ (d : Decl). d.name) (map decl_of (flat_map (λ (part : CommonPart). map name_alone part.decls) ps)) ≡ all_of ps
   block_named [] = refl
-  block_named (part ∷ ps) =
-      let front = map name_alone part.decls in
-      let rest = flat_map (λ (p : CommonPart). map name_alone p.decls) ps in
-      ap (map (λ (d : Decl). d.name)) (map-append decl_of front rest) ∙ map-append (λ (d : Decl). d.name) (map decl_of front) (map decl_of rest)
-      ∙ ap (λ ns. ns ++ map (λ (d : Decl). d.name) (map decl_of rest)) (alone_named part.decls) ∙ ap (λ ns. names_of_part part ++ ns) (block_named ps)
+  block_named (part ∷ ps) = grind (arith, map-append decl_of, map-append, alone_named part.decls, block_named ps)
 
   statement_named : (block : Option (List ℕ)) → common_names (statement_of (block_statement parts block)) ≡ all_of (of_block block)
   statement_named block = append-nil (map (λ (d : Decl). d.name) (map decl_of (block_decls parts block))) ∙ block_named (of_block block)
@@ -268,18 +236,11 @@ module _ (parts : List CommonPart) (none : has_repeat bytes_eq [] (all_of parts)
 
   one_named : (k : ℕ) (part : Option CommonPart) → named_in (common_at parts k part) ≡ names_by k part
   one_named k None = refl
-  one_named k (Some part) = by_test (is_continued parts k part)
-    where
-      by_test : (b : Bool) → named_in (cond b [] (block_statement parts part.block ∷ [])) ≡ cond b [] (all_of (of_block part.block))
-      by_test true = refl
-      by_test false = append-nil (common_names (statement_of (block_statement parts part.block))) ∙ statement_named part.block
+  one_named k (Some part) = grind (arith, append-nil (common_names (statement_of (block_statement parts part.block))), statement_named part.block)
 
   all_named : (places : List ℕ) → named_in (flat_map (λ k. common_at parts k (slice_get parts k)) places) ≡ flat_map names_at places
   all_named [] = refl
-  all_named (k ∷ places) =
-      flat_map-append (λ w. common_names (statement_of w)) (common_at parts k (slice_get parts k)) (flat_map (λ j. common_at parts j (slice_get parts j)) places)
-      ∙ ap (λ ns. ns ++ named_in (flat_map (λ j. common_at parts j (slice_get parts j)) places)) (one_named k (slice_get parts k))
-      ∙ ap (λ ns. names_at k ++ ns) (all_named places)
+  all_named (k ∷ places) = grind (arith, flat_map-append, one_named k (slice_get parts k), all_named places)
 
   -- no name of COMMON stands twice
   pub commons_once : has_repeat bytes_eq [] (named_in (commons parts)) ≡ false
@@ -290,13 +251,9 @@ module _ (parts : List CommonPart) (none : has_repeat bytes_eq [] (all_of parts)
 -- of lists put together none repeats what the earlier ones have
 within_all : {X : Type 0} (f : X → Names) (seen : Names) (xs : List X) (k : ℕ) (x : X) → has_repeat bytes_eq seen (flat_map f xs) ≡ false → slice_get xs k ≡ Some x → has_repeat bytes_eq (seen ++ flat_map f (take k xs)) (f x) ≡ false
 within_all f seen [] k x none is = absurd cc
-within_all f seen (y ∷ ys) zero x none is =
-    let same : y ≡ x = cc in
-    let parts = or_parts (has_repeat bytes_eq seen (f y)) (has_repeat bytes_eq (seen ++ f y) (flat_map f ys)) (sym (has_repeat-append bytes_eq seen (f y) (flat_map f ys)) ∙ none) in
-    ap (λ zs. has_repeat bytes_eq zs (f x)) (append-nil seen) ∙ ap (λ z. has_repeat bytes_eq seen (f z)) (sym same) ∙ parts.0
+within_all f seen (y ∷ ys) zero x none is = grind (arith, has_repeat-append bytes_eq seen (f y) (flat_map f ys), append-nil seen)
 within_all f seen (y ∷ ys) (suc k) x none is =
-    let parts = or_parts (has_repeat bytes_eq seen (f y)) (has_repeat bytes_eq (seen ++ f y) (flat_map f ys)) (sym (has_repeat-append bytes_eq seen (f y) (flat_map f ys)) ∙ none) in
-    ap (λ zs. has_repeat bytes_eq zs (f x)) (sym (append_assoc seen (f y) (flat_map f (take k ys)))) ∙ within_all f (seen ++ f y) ys k x parts.1 is
+    grind (arith, has_repeat-append bytes_eq seen (f y) (flat_map f ys), append_assoc seen (f y) (flat_map f (take k ys)), within_all f (seen ++ f y) ys k x)
 
 map_twice : {X Y Z : Type 0} (f : Y → Z) (g : X → Y) (xs : List X) → map f (map g xs) ≡ map (λ x. f (g x)) xs
 map_twice f g [] = refl
@@ -304,10 +261,7 @@ map_twice f g (x ∷ xs) = ap (λ zs. f (g x) ∷ zs) (map_twice f g xs)
 
 indices : (names : List NameInfo) (parts : List CommonPart) → map (index_of names) (all_of parts) ≡ flat_map (part_names names) parts
 indices names [] = refl
-indices names (part ∷ parts) =
-    map-append (index_of names) (names_of_part part) (all_of parts)
-    ∙ ap (λ ks. ks ++ map (index_of names) (all_of parts)) (map_twice (index_of names) (λ (d : Decl). d.name) part.decls)
-    ∙ ap (λ ks. part_names names part ++ ks) (indices names parts)
+indices names (part ∷ parts) = grind (arith, elements, map-append, map_twice, indices names parts)
 
 once_in : (names : List NameInfo) (parts : List CommonPart) → CommonOnce names parts → has_repeat bytes_eq [] (all_of parts) ≡ false
 once_in names parts once =
@@ -316,18 +270,7 @@ once_in names parts once =
     once j k (index_of names x) (at j is_j) (at k is_k))
 
 no_common : (names : List NameInfo) → HoldsOfRead (λ s. common_names s ≡ []) names
-no_common names = record {
-  mark = refl;
-  assigned = λ target value. refl;
-  taken = λ target. refl;
-  output = λ items. refl;
-  guarded = λ condition target. refl;
-  by_sign = λ value below at above. refl;
-  picked = λ value targets. refl;
-  loop = λ end var first last step. refl;
-  jump = λ target. refl;
-  finish = refl;
-}
+no_common names = grind arith
 
 module _ (q : Program) (flat : List FlatLine) (given : CanBeText q flat) where
   abbrev NoCommon : WrittenStatement → Type 0
@@ -335,12 +278,7 @@ module _ (q : Program) (flat : List FlatLine) (given : CanBeText q flat) where
 
   common_all : flat_map (λ (s : Labelled). common_names s.stmt) (statements_read q flat) ≡ of_written common_names (commons q.commons)
   common_all =
-      let groups_none = none_written common_names (map group_statement q.groups) (mapped_each NoCommon group_statement q.groups (λ group. refl)) in
-      let inits_none = none_written common_names (map init_statement q.inits) (mapped_each NoCommon init_statement q.inits (λ part. refl)) in
-      gathered_of common_names q flat (λ info. refl) (no_common q.names)
-      ∙ ap (λ ns. of_written common_names (commons q.commons) ++ (ns ++ of_written common_names (map init_statement q.inits))) groups_none
-      ∙ ap (λ ns. of_written common_names (commons q.commons) ++ ns) inits_none
-      ∙ append-nil (of_written common_names (commons q.commons))
+      grind (arith, none_written common_names (map group_statement q.groups), mapped_each NoCommon group_statement q.groups, none_written common_names (map init_statement q.inits), mapped_each NoCommon init_statement q.inits, gathered_of common_names q flat, no_common q.names, of_written common_names (commons q.commons), of_written common_names (map init_statement q.inits), append-nil (of_written common_names (commons q.commons)))
 
   -- no name of the statements stands twice in COMMON
   pub all_common_once : has_repeat bytes_eq [] (flat_map (λ (s : Labelled). common_names s.stmt) (statements_read q flat)) ≡ false

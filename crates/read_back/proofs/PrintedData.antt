@@ -80,12 +80,7 @@ module _ (names : List NameInfo) where
   -- the parts in between are right after the first ones
   right_between : (first middle last : List InitPart) → All (IsInitPart names) ((first ++ middle) ++ last) → has_repeat same_word [] (words ((first ++ middle) ++ last)) ≡ false → has_wrong_part names (words first) middle ≡ false
   right_between first middle last each once =
-      let all_words : words ((first ++ middle) ++ last) ≡ words first ++ (words middle ++ words last) =
-      flat_map-append (part_words names) (first ++ middle) last ∙ ap (λ ws. ws ++ words last) (flat_map-append (part_words names) first middle) ∙ append_assoc (words first) (words middle) (words last)
-      in
-      let outer = or_parts (has_repeat same_word [] (words first)) (has_repeat same_word (words first) (words middle ++ words last)) (sym (has_repeat-append same_word [] (words first) (words middle ++ words last)) ∙ ap (has_repeat same_word []) (sym all_words) ∙ once) in
-      let inner = or_parts (has_repeat same_word (words first) (words middle)) (has_repeat same_word (words first ++ words middle) (words last)) (sym (has_repeat-append same_word (words first) (words middle) (words last)) ∙ outer.1) in
-      right_parts (words first) middle (all_last (IsInitPart names) first middle (all_first (IsInitPart names) (first ++ middle) last each)) inner.0
+      grind (arith, flat_map-append (part_words names) (first ++ middle) last, flat_map-append (part_words names) first middle, append_assoc (words first) (words middle) (words last), has_repeat-append same_word, has_repeat-append same_word (words first) (words middle) (words last), right_parts (words first) middle (all_last (IsInitPart names) first middle (all_first (IsInitPart names) (first ++ middle) last each)), all_last (IsInitPart names) first middle (all_first (IsInitPart names) (first ++ middle) last each), all_first (IsInitPart names) (first ++ middle) last each)
 
 -- ---- the whole program
 

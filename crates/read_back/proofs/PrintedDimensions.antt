@@ -1,9 +1,9 @@
 -- Dimensions and members of a printed program are right: each array has its dimensions in the statement of its kind alone, and members of
 -- EQUIVALENCE and items of DATA lie within them.
-use Rattle.std.proofs.Common.{◌≡◌, ◌==◌, ℕ, ◌<◌, ℤ, pos, negsuc, nat_abs, ◌*ℤ◌, ◌≤ℤ◌, Bool, true, false, cond, not, List, [], ◌∷◌, ◌++◌, length, map, filter, take, ◌&&◌, ◌||◌, nat_lt, refl, sym, ap, ◌∙◌, subst, ⊎_elim, ◌⊎◌, arith, Some, None}
-use Rattle.std.specs.Prelude.{All, bytes_eq, flat_map, int_le, int_lt, slice_get}
+use Rattle.std.proofs.Common.{◌≡◌, ℕ, ◌<◌, ℤ, pos, negsuc, nat_abs, ◌*ℤ◌, ◌≤ℤ◌, Bool, true, false, cond, not, List, [], ◌∷◌, ◌++◌, map, take, ◌||◌, nat_lt, refl, sym, ap, ◌∙◌, subst, ⊎_elim, ◌⊎◌, arith, Some, None}
+use Rattle.std.specs.Prelude.{All, bytes_eq, flat_map, int_lt, slice_get}
 use Rattle.std.specs.List.{list_any}
-use Rattle.std.proofs.lemmas.Bool.{and_from, cases_Bool, le-ltb}
+use Rattle.std.proofs.lemmas.Bool.{and_from, le-ltb}
 use Rattle.std.proofs.lemmas.Int.{ints}
 use Rattle.std.proofs.lemmas.List.Elements.{All-append, All-map}
 use Rattle.std.proofs.lemmas.List.Folds.{list_any-append}
@@ -14,10 +14,10 @@ use Rattle.f77_tree.specs.declared.programs.NameInfo.{NameInfo}
 use Rattle.f77_tree.specs.declared.programs.Program.{Program}
 use Rattle.f77_tree.specs.declared.statements.Labelled.{Labelled}
 use Rattle.f77_tree.specs.declared.statements.Stmt.{Stmt}
-use Rattle.f77_tree.specs.Declarations.{CanBeWritten, IsDim, AreDims, AreWithin, IsNameInfo, IsMember, member_index}
+use Rattle.f77_tree.specs.Declarations.{CanBeWritten, IsDim, AreDims, AreWithin, IsNameInfo, IsMember}
 use Rattle.f77_tree.specs.OtherPlaces.{without_places}
 use Rattle.f77_tree.specs.StatementGrammar.{WrittenStatement, statement_of, whole_number, member_of}
-use Rattle.f77_tree.specs.Value.{extent as width, size_of, dims_of}
+use Rattle.f77_tree.specs.Value.{extent as width, size_of}
 use Rattle.f77_tree.proofs.AllLemmas.{All-nil, All-first, All-rest, All-get}
 use Rattle.f77_tree.proofs.NameLemmas.{bytes_eq-same}
 use Rattle.layout_rules.specs.Declarations.{declarators, has_dims}
@@ -49,9 +49,7 @@ nonneg (pos n) h = refl
 nonneg (negsuc n) h = absurd (omega (arith, ints, h))
 
 width-pos : (d : Dim) → IsDim d → width d ≡ pos (extent d)
-width-pos d is =
-    let order = is.order in
-    nonneg (width d) (omega (arith, ints, order)) ∙ ap (λ b. pos (cond b 0 (nat_abs (width d)))) (sym (forward d is))
+width-pos d is = grind (arith, elements, nonneg, ints, pos, nat_abs, forward)
 
 size-pos : (dims : List Dim) → All IsDim dims → size_of dims ≡ pos (elements dims)
 size-pos [] all = refl
@@ -63,9 +61,7 @@ all_forward [] all = refl
 all_forward (d ∷ dims) all = ap (λ b. b || list_any (λ (e : Dim). int_lt e.hi e.lo) dims) (forward d (All-first IsDim d dims all)) ∙ all_forward dims (All-rest IsDim d dims all)
 
 right_up_to : (most : ℕ) (dims : List Dim) → All IsDim dims → size_of dims ≤ℤ pos most → (list_any (λ (d : Dim). int_lt d.hi d.lo) dims || nat_lt most (elements dims)) ≡ false
-right_up_to most dims all le =
-    let same = size-pos dims all in
-    ap (λ b. b || nat_lt most (elements dims)) (all_forward dims all) ∙ le-ltb most (elements dims) (omega (arith, ints, same, le))
+right_up_to most dims all le = grind (arith, elements, size-pos, all_forward, le-ltb, ints)
 
 pub right_dims : (dims : List Dim) → AreDims dims → are_wrong_dims dims ≡ false
 right_dims dims are = right_up_to 262144 dims are.bounds are.elements
@@ -74,15 +70,11 @@ right_dims dims are = right_up_to 262144 dims are.bounds are.elements
 
 none_bare : (decls : List Decl) → All IsBare decls → array_names decls ≡ []
 none_bare [] all = refl
-none_bare (d ∷ decls) all =
-    ap (λ dims. map (λ (e : Decl). e.name) (cond (nat_lt 0 (length dims)) (d ∷ filter has_dims decls) (filter has_dims decls))) (All-first IsBare d decls all) ∙ none_bare decls (All-rest IsBare d decls all)
+none_bare (d ∷ decls) all = grind (arith, elements, All-first, All-rest, none_bare decls (All-rest IsBare d decls all))
 
 right_bare : (decls : List Decl) → All IsBare decls → list_any (λ (d : Decl). are_wrong_dims d.dims) decls ≡ false
 right_bare [] all = refl
-right_bare (d ∷ decls) all =
-    ap (λ dims. are_wrong_dims dims || list_any (λ (e : Decl). are_wrong_dims e.dims) decls) (All-first IsBare d decls all)
-    ∙ ap (λ b. b || list_any (λ (e : Decl). are_wrong_dims e.dims) decls) (right_dims [] (record { bounds = All-nil IsDim; dimensions = omega arith; elements = omega (arith, ints) }))
-    ∙ right_bare decls (All-rest IsBare d decls all)
+right_bare (d ∷ decls) all = grind (arith, elements, All-first, right_dims, All-nil, ints, All-rest, right_bare decls (All-rest IsBare d decls all))
 
 module _ (q : Program) (flat : List FlatLine) (given : CanBeText q flat) where
   abbrev stmts : List Labelled
@@ -126,13 +118,7 @@ module _ (q : Program) (flat : List FlatLine) (given : CanBeText q flat) where
 
   -- a name stands in one statement of the table's alone
   apart : (j k : ℕ) (a b : NameInfo) → j < k → slice_get q.names j ≡ Some a → slice_get q.names k ≡ Some b → bytes_eq b.name a.name ≡ false
-  apart j k a b lt is_a is_b =
-      ⊎_elim
-      (λ (same : bytes_eq b.name a.name ≡ true).
-      let at : k ≡ j = given.declarations.differ k j b a is_b is_a (bytes_eq-same b.name a.name same) in
-      absurd (omega (arith, at, lt)))
-      (λ (other : bytes_eq b.name a.name ≡ false). other)
-      (cases_Bool (bytes_eq b.name a.name))
+  apart j k a b lt is_a is_b = grind (arith, elements, bytes_eq-same)
 
   arrays_of : (info : NameInfo) → dimensioned (statement_of (typed_name info)) ≡ cond (has_dims (declared_name info)) (info.name ∷ []) []
   arrays_of info = names_if (has_dims (declared_name info)) (declared_name info)
@@ -173,12 +159,7 @@ within_is : (dims : List Dim) (subs : List ℤ) → AreWithin dims subs → are_
 within_is [] [] within = refl
 within_is [] (sub ∷ subs) within = absurd within
 within_is (dim ∷ dims) [] within = absurd within
-within_is (dim ∷ dims) (sub ∷ subs) within =
-    let low = within.0 in
-    let high = within.1 in
-    let above : int_le dim.lo sub ≡ true = grind (arith, ints) in
-    let below : int_le sub dim.hi ≡ true = grind (arith, ints) in
-    and_from (int_le dim.lo sub && int_le sub dim.hi) (are_within dims subs) (and_from (int_le dim.lo sub) (int_le sub dim.hi) above below) (within_is dims subs within.2)
+within_is (dim ∷ dims) (sub ∷ subs) within = grind (arith, elements, ints, and_from, within_is dims subs within.2)
 
 module _ (names : List NameInfo) (table : All IsNameInfo names) where
   pub member_again : (m : Member) → IsMember names m → member_of (written_member m) ≡ m
@@ -188,42 +169,18 @@ module _ (names : List NameInfo) (table : All IsNameInfo names) where
   wrong m = not (is_member (without_places names) m)
 
   right_member : (m : Member) → IsMember names m → wrong m ≡ false
-  right_member m is =
-      let dims : dims_of (without_places names) (member_index (without_places names) m) ≡ dims_of names (member_index names m) = ap (dims_of (without_places names)) (bare-index names m.name) ∙ bare-dims names (member_index names m) in
-      ap (λ ds. not ((length m.subs == 0) || are_within ds m.subs)) dims
-      ∙ ⊎_elim
-      (λ (none : m.subs ≡ []). ap (λ subs. not ((length subs == 0) || are_within (dims_of names (member_index names m)) subs)) none)
-      (λ within. ap (λ b. not ((length m.subs == 0) || b)) (within_is (dims_of names (member_index names m)) m.subs within) ∙ ap not (or_true (length m.subs == 0)))
-      is.element
-    where
-      or_true : (b : Bool) → (b || true) ≡ true
-      or_true true = refl
-      or_true false = refl
+  right_member m is = grind (arith, elements, bare-index, bare-dims, within_is)
 
   right_members : (ms : List Member) → All (IsMember names) ms → list_any wrong (map member_of (map written_member ms)) ≡ false
   right_members [] all = refl
   right_members (m ∷ ms) all =
-      let is = All-first (IsMember names) m ms all in
-      ap (λ n. wrong n || list_any wrong (map member_of (map written_member ms))) (member_again m is)
-      ∙ ap (λ b. b || list_any wrong (map member_of (map written_member ms))) (right_member m is)
-      ∙ right_members ms (All-rest (IsMember names) m ms all)
+      grind (arith, elements, All-first, member_again, right_member, All-rest, right_members ms (All-rest (IsMember names) m ms all))
 
   alone : (ms : List Member) → All (IsMember names) ms → list_any wrong (map member_of (map written_member ms) ++ []) ≡ false
   alone ms all = list_any-append wrong (map member_of (map written_member ms)) [] ∙ ap (λ b. b || false) (right_members ms all)
 
 has_no_members : (names : List NameInfo) → HoldsOfRead (λ s. members_of s ≡ []) names
-has_no_members names = record {
-  mark = refl;
-  assigned = λ target value. refl;
-  taken = λ target. refl;
-  output = λ items. refl;
-  guarded = λ condition target. refl;
-  by_sign = λ value below at above. refl;
-  picked = λ value targets. refl;
-  loop = λ end var first last step. refl;
-  jump = λ target. refl;
-  finish = refl;
-}
+has_no_members names = grind (arith, elements)
 
 module _ (q : Program) (flat : List FlatLine) (given : CanBeText q flat) (free : HasNoPrintedArrays q.names) where
   abbrev HasRight : Stmt → Type 0

@@ -1,8 +1,8 @@
 -- No statement of a printed program jumps into the range of a DO from outside of it.
-use Rattle.std.proofs.Common.{◌≡◌, ◌==◌, ℕ, ◌+◌, ◌-◌, ◌<◌, ◌≤◌, Bool, true, false, cond, not, List, [], ◌∷◌, length, take, ◌&&◌, ◌||◌, nat_lt, nat_le, refl, sym, ap, ◌∙◌, subst, ⊎_elim, arith, Option, Some, None}
+use Rattle.std.proofs.Common.{◌≡◌, ◌==◌, ℕ, ◌+◌, ◌-◌, ◌<◌, ◌≤◌, Bool, true, false, cond, not, List, [], ◌∷◌, length, take, ◌&&◌, ◌||◌, refl, sym, ap, ◌∙◌, subst, ⊎_elim, arith, Option, Some, None}
 use Rattle.std.specs.Prelude.{All, Contains, decimal, flat_map, slice_get}
 use Rattle.std.specs.List.{list_any, range_with_len}
-use Rattle.std.proofs.lemmas.Bool.{and_parts, cases_Bool, cases_lt, ltb-true, leb-true, lt-ltb, le-leb}
+use Rattle.std.proofs.lemmas.Bool.{cases_lt, ltb-true, leb-true, lt-ltb, le-leb}
 use Rattle.std.proofs.lemmas.List.{length-take}
 use Rattle.std.proofs.lemmas.List.Elements.{Contains-get_or}
 use Rattle.std.proofs.lemmas.List.Folds.{list_any-append}
@@ -37,15 +37,7 @@ none_flat p f (x ∷ xs) none = list_any-append p (f x) (flat_map f xs) ∙ ap (
 
 -- what holds the target holds the jump
 not_into : (span : Span) (from to : ℕ) → ((span.head < to) → (to ≤ span.last) → (span.head < from) × (from ≤ span.last)) → (lies_in span to && not (lies_in span from)) ≡ false
-not_into span from to both =
-    ⊎_elim
-    (λ (holds : lies_in span to ≡ true).
-    let parts = and_parts (nat_lt span.head to) (nat_le to span.last) holds in
-    let inside = both (ltb-true span.head to parts.0) (leb-true to span.last parts.1) in
-    let here : lies_in span from ≡ true = ap (λ b. b && nat_le from span.last) (lt-ltb span.head from inside.0) ∙ le-leb from span.last inside.1 in
-    ap (λ b. b && not (lies_in span from)) holds ∙ ap not here)
-    (λ (apart : lies_in span to ≡ false). ap (λ b. b && not (lies_in span from)) apart)
-    (cases_Bool (lies_in span to))
+not_into span from to both = grind (arith, ltb-true, leb-true, lt-ltb, le-leb from)
 
 module _ (q : Program) (flat : List FlatLine) (form : IsFlat flat) (few : length flat ≤ 4000) where
   abbrev stmts : List Labelled

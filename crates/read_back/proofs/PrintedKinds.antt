@@ -1,6 +1,6 @@
 -- The form of a printed expression has the expression's kind, where no array bears the name of an intrinsic function that is printed.
-use Rattle.std.proofs.Common.{◌≡◌, ◌==◌, ℕ, zero, suc, ◌+◌, ◌<◌, ◌≤◌, Bool, true, false, not, cond, ◌&&◌, ◌||◌, nat_lt, List, [], ◌∷◌, ◌++◌, length, Option, Some, None, refl, sym, ap, ◌∙◌, subst, arith, length-append, if◌then◌else◌}
-use Rattle.std.specs.Prelude.{codes, slice_get, bytes_eq}
+use Rattle.std.proofs.Common.{◌≡◌, ◌==◌, ℕ, zero, suc, ◌<◌, ◌≤◌, Bool, true, false, ◌&&◌, ◌||◌, nat_lt, List, [], ◌∷◌, ◌++◌, length, Option, Some, None, refl, sym, ap, ◌∙◌, subst, arith, if◌then◌else◌}
+use Rattle.std.specs.Prelude.{codes, slice_get}
 use Rattle.std.specs.List.{list_all}
 use Rattle.std.proofs.lemmas.Bool.{and_from, lt-ltb, eq-eqb}
 use Rattle.std.proofs.lemmas.List.{length-map}
@@ -16,7 +16,7 @@ use Rattle.f77_tree.specs.declared.expressions.Expr.{Expr, Row_of-Expr, end_of-E
 use Rattle.f77_tree.specs.declared.expressions.Expr.TheVariants.{Const, Truth as IsTruth, Input, Read', Apply'}
 use Rattle.f77_tree.specs.declared.programs.NameInfo.{NameInfo}
 use Rattle.f77_tree.specs.declared.statements.RawExpr.{RawExpr, Call, Call', Apply, Apply' as RawApply', Row_of-RawExpr, end_of-RawExpr, more_of-RawExpr, items-the_row-RawExpr, items_hidden-the_row-RawExpr-0}
-use Rattle.f77_tree.specs.declared.statements.RawExpr.TheVariants.{Int, Truth as RawTruth, Named}
+use Rattle.f77_tree.specs.declared.statements.RawExpr.TheVariants.{Int, Truth as RawTruth}
 use Rattle.f77_tree.specs.Declarations.{NamesDiffer, index_of}
 use Rattle.f77_tree.specs.Kinds.{is_written, operand_kind, IsProper, AllOfKind}
 use Rattle.f77_tree.specs.Line.{kind_of_op, kind_of_expression}
@@ -25,6 +25,7 @@ use Rattle.f77_tree.proofs.NameLemmas.{index_of-name}
 use Rattle.f77_expr.specs.Printing.{name_in, name_at, plain, Form, plain_form, forms_alone, operator_form, access_form, form, row_forms, raw_form}
 use Rattle.read_back.specs.PrintedArrays.{HasNoPrintedArrays}
 use Rattle.layout_rules.specs.Types.{kind_in, is_row_of, is_of_kind, is_kind, count_of_row, kind_of_call, is_array_in, dims_named, kind_named, takes}
+use Rattle.std.proofs.lemmas.Grind.{elements}
 
 -- ---- rows
 
@@ -62,18 +63,8 @@ kind-Apply names op args all =
 -- the first name that bears the name at this index stands no later
 found_early : (names : List NameInfo) (k : ℕ) (info : NameInfo) → slice_get names k ≡ Some info → index_of names info.name ≤ k
 found_early [] k info is = absurd cc
-found_early (n ∷ names) zero info is =
-    let same : n ≡ info = cc in
-    let here : bytes_eq n.name info.name ≡ true = (bytes_eq-Decides n.name info.name).1 (ap (λ (i : NameInfo). i.name) same) in
-    let none : cond (not (bytes_eq n.name info.name)) (1 + index_of names info.name) 0 ≡ 0 = ap (λ b. cond (not b) (1 + index_of names info.name) 0) here in
-    omega (arith, none)
-found_early (n ∷ names) (suc k) info is =
-    let rest = found_early names k info is in
-    most (bytes_eq n.name info.name) rest
-  where
-    most : (b : Bool) → index_of names info.name ≤ k → cond (not b) (1 + index_of names info.name) 0 ≤ suc k
-    most true le = omega arith
-    most false le = omega (arith, le)
+found_early (n ∷ names) zero info is = grind (arith, elements, bytes_eq-Decides)
+found_early (n ∷ names) (suc k) info is = grind (arith, elements, found_early names k info is)
 
 get_some : (names : List NameInfo) (k : ℕ) → k < length names → (info : NameInfo) × (slice_get names k ≡ Some info)
 get_some [] k lt = absurd (omega (arith, lt))
@@ -113,9 +104,7 @@ module _ (names : List NameInfo) (differ : NamesDiffer names) (free : HasNoPrint
   kinded_by kind e is = ap (is_kind kind) is ∙ same_kind kind
 
   one : (kind : Kind) (e : RawExpr) → kind_in names e ≡ Some kind → kind ≡ Integer → AreArguments (e ∷ [])
-  one kind e is integer =
-      let of : kind_in names e ≡ Some Integer = is ∙ ap Some integer in
-      record { some = omega arith; integers = and_from (is_of_kind names Integer e) true (kinded_by Integer e of) refl }
+  one kind e is integer = grind (arith, elements, and_from, kinded_by)
 
   plain_kinded : (kind : Kind) (e : RawExpr) → kind_in names e ≡ Some kind → IsKinded kind (plain_form e)
   plain_kinded kind e is = record { alone = is; in_max = one kind e is; in_min = one kind e is }
@@ -130,24 +119,16 @@ module _ (names : List NameInfo) (differ : NamesDiffer names) (free : HasNoPrint
 
   -- one argument more
   more_arguments : (es : List RawExpr) (e : RawExpr) → AreArguments es → kind_in names e ≡ Some Integer → (are_of_kind names Integer (es ++ e ∷ []) ≡ true) × (2 ≤ length (es ++ e ∷ []))
-  more_arguments es e are is =
-      let some = are.some in
-      (list_all-append (is_of_kind names Integer) es (e ∷ []) ∙ and_from (are_of_kind names Integer es) (is_of_kind names Integer e && true) are.integers (and_from (is_of_kind names Integer e) true (kinded_by Integer e is) refl), omega (arith, some, length-append es (e ∷ [])))
+  more_arguments es e are is = grind (arith, elements, list_all-append, and_from, kinded_by)
 
   call_kind : (name : List ℕ) (count : ℕ) (enough : Bool) → is_array_in names name ≡ false → enough ≡ true → (if is_array_in names name then (if length (dims_named names name) == count then Some (kind_named names name) else None) else if enough then Some Integer else None) ≡ Some Integer
-  call_kind name count enough none is =
-      ap (λ b. if b then (if length (dims_named names name) == count then Some (kind_named names name) else None) else if enough then Some Integer else None) none
-      ∙ ap (λ b. if b then Some Integer else None) is
+  call_kind name count enough none is = grind (arith, elements)
 
   many : (n : ℕ) → 2 ≤ n → (2 == n || nat_lt 2 n) ≡ true
   many zero le = absurd (omega (arith, le))
   many (suc zero) le = absurd (omega (arith, le))
   many (suc (suc zero)) le = refl
-  many (suc (suc (suc n))) le = or_right (2 == suc (suc (suc n))) (nat_lt 2 (suc (suc (suc n)))) (lt-ltb 2 (suc (suc (suc n))) (omega arith))
-    where
-      or_right : (a b : Bool) → b ≡ true → (a || b) ≡ true
-      or_right true b h = refl
-      or_right false b h = h
+  many (suc (suc (suc n))) le = grind (arith, elements, lt-ltb)
 
   max_enough : (n : ℕ) → 2 ≤ n → kind_of_call names (codes "MAX") n ≡ Some Integer
   max_enough n le = call_kind (codes "MAX") n (((2 == n) || nat_lt 2 n) || false) free.max_of (ap (λ b. b || false) (many n le))
@@ -241,11 +222,7 @@ module _ (names : List NameInfo) (differ : NamesDiffer names) (free : HasNoPrint
   same_number n = eq-eqb n n refl
 
   access_kinded : (k : ℕ) (fs : List Form) → k < length names → length fs ≡ length (dims_of names k) → AllKinded Integer fs → IsKinded (kind_of names k) (access_form (name_at names k) fs)
-  access_kinded k [] known len all =
-      let name = name_at names k in
-      let at = index-name names k differ known in
-      let scalar : is_array_in names name ≡ false = ap (λ j. nat_lt 0 (length (dims_of names j))) at ∙ ap (nat_lt 0) (sym len) in
-      plain_kinded (kind_of names k) (Named name) (ap (λ b. if b then None else Some (kind_named names name)) scalar ∙ ap (λ j. Some (kind_of names j)) at)
+  access_kinded k [] known len all = grind (arith, elements, index-name, plain_kinded)
   access_kinded k (a ∷ more) known len all =
       let name = name_at names k in
       let args = forms_alone (a ∷ more) in

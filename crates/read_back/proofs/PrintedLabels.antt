@@ -1,6 +1,6 @@
 -- Labels of a printed program: the marks are numbered one after another, and no other statement has a label, so that no label stands
 -- twice; and each number that is used is that of a mark.
-use Rattle.std.proofs.Common.{◌≡◌, ◌==◌, ℕ, ◌+◌, ◌-◌, ◌<◌, ◌≤◌, Bool, true, false, cond, not, List, [], ◌∷◌, length, map, take, ◌&&◌, refl, sym, ap, ◌∙◌, subst, ⊎_elim, ◌⊎◌, inl, inr, arith, Some, None}
+use Rattle.std.proofs.Common.{◌≡◌, ◌==◌, ℕ, ◌+◌, ◌-◌, ◌<◌, ◌≤◌, Bool, true, false, cond, not, List, [], ◌∷◌, length, map, take, ◌&&◌, refl, sym, ap, ◌∙◌, subst, ⊎_elim, ◌⊎◌, inl, arith, Some, None}
 use Rattle.std.specs.Prelude.{All, decimal, slice_get}
 use Rattle.std.specs.List.{list_any}
 use Rattle.std.proofs.lemmas.Bool.{cases_lt, ne_eqb, eq-eqb}
@@ -34,15 +34,7 @@ use Rattle.read_back.proofs.PrintedPlaces.{got_within, IsDeclaredAt, IsFlatAt, f
 -- ---- labels
 
 is_Mark : (stmt : Flat) → is_mark stmt ≡ true → stmt ≡ Mark
-is_Mark Mark is = refl
-is_Mark (Assignment target value) is = absurd cc
-is_Mark (Output items) is = absurd cc
-is_Mark (LogicalIf condition target) is = absurd cc
-is_Mark (ArithmeticIf value below at above) is = absurd cc
-is_Mark (ComputedGoTo value targets) is = absurd cc
-is_Mark (DoLoop end var first last step) is = absurd cc
-is_Mark (Jump target) is = absurd cc
-is_Mark Finish is = absurd cc
+is_Mark h is = grind arith
 
 module _ (q : Program) (flat : List FlatLine) where
   -- the statement is a CONTINUE with the number of a mark
@@ -57,16 +49,7 @@ module _ (q : Program) (flat : List FlatLine) where
 
   marked : (place : ℕ) (s : Labelled) (is : IsFlatAt q flat place s) → (b : Bool) → is_mark is.l.stmt ≡ b → (s.label ≡ 0) ⊎ BearsMark (first_flat q flat + place) s
   marked place s is false other = inl (is.label ∙ ap (λ c. cond c (mark_at flat place) 0) other)
-  marked place s is true marks =
-      inr (record {
-        place = place;
-        l = is.l;
-        there = is.there;
-        marks = marks;
-        at = refl;
-        label = is.label ∙ ap (λ c. cond c (mark_at flat place) 0) marks;
-        stmt = is.stmt ∙ ap (λ stmt. statement_of (shown q.names stmt)) (is_Mark is.l.stmt marks);
-      })
+  marked place s is true marks = grind (arith, is_Mark)
 
   -- a statement without a label, or that of a mark
   pub label_of : (k : ℕ) (s : Labelled) → slice_get (statements_read q flat) k ≡ Some s → (s.label ≡ 0) ⊎ BearsMark k s
@@ -102,17 +85,7 @@ module _ (q : Program) (flat : List FlatLine) where
   no_other k s has = none_above (λ (a : Labelled). a.label == s.label) (statements_read q flat) k (first_with k s has)
 
   pub none_labelled_twice : first_line is_labelled_twice (statements_read q flat) ≡ None
-  none_labelled_twice =
-      none_faulty is_labelled_twice (statements_read q flat) (λ k s is.
-      let above = list_any (λ (a : Labelled). a.label == s.label) (take k (statements_read q flat)) in
-      ⊎_elim
-      (λ (none : s.label ≡ 0). unlabelled s.label above none)
-      (λ (has : BearsMark k s). ap (λ b. not (s.label == 0) && b) (no_other k s has) ∙ and_false (not (s.label == 0)))
-      (label_of k s is))
-    where
-      and_false : (b : Bool) → (b && false) ≡ false
-      and_false true = refl
-      and_false false = refl
+  none_labelled_twice = grind (arith, none_faulty is_labelled_twice (statements_read q flat), unlabelled, no_other, label_of)
 
 -- ---- labels that are used
 

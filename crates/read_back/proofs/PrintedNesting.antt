@@ -1,22 +1,20 @@
 -- The DOs of a printed program are nested: what is open at a flat statement are the DOs above it whose ranges end there or after it, the
 -- innermost first.
-use Rattle.std.proofs.Common.{◌≡◌, ◌≢◌, ◌==◌, ℕ, suc, ◌+◌, ◌-◌, ◌<◌, ◌≤◌, Bool, true, false, cond, List, [], ◌∷◌, length, map, ◌&&◌, ◌||◌, refl, sym, ap, ◌∙◌, subst, ⊎_elim, arith, Option, Some, None}
+use Rattle.std.proofs.Common.{◌≡◌, ◌≢◌, ℕ, suc, ◌+◌, ◌-◌, ◌<◌, ◌≤◌, Bool, true, false, cond, List, [], ◌∷◌, length, map, ◌&&◌, ◌||◌, refl, sym, ap, ◌∙◌, subst, ⊎_elim, arith, Option, Some, None}
 use Rattle.std.specs.Prelude.{All, decimal, slice_get, slice_index}
 use Rattle.std.proofs.lemmas.Bool.{cases_eq, cases_lt, ne_eqb, eq-eqb}
 use Rattle.f77_tree.specs.declared.programs.Program.{Program}
 use Rattle.f77_tree.specs.declared.statements.Labelled.{Labelled}
-use Rattle.f77_tree.specs.Execution.{words_taken}
 use Rattle.f77_tree.specs.Grammar.{number_of}
 use Rattle.f77_tree.specs.StatementGrammar.{WrittenStatement, statement_of}
 use Rattle.f77_tree.proofs.AllLemmas.{All-first, All-get}
-use Rattle.layout_rules.specs.Nesting.{is_loop_to, has_loop_to, without_loops, after_ends, after_role, stack_after, itself, open_after, line_or, first_unnested}
+use Rattle.layout_rules.specs.Nesting.{has_loop_to, without_loops, after_ends, after_role, itself, open_after, line_or, first_unnested}
 use Rattle.layout_rules.specs.Roles.{role_of, is_no_end}
 use Rattle.layout_rules.specs.declared.nesting.Opened.{Opened}
 use Rattle.layout_rules.specs.declared.nesting.Opened.TheVariants.{Loop}
 use Rattle.layout_rules.specs.declared.nesting.Role.{Role}
-use Rattle.layout_rules.specs.declared.nesting.Role.TheVariants.{Declaration, BeginLoop, Finish, Leave, Plain}
+use Rattle.layout_rules.specs.declared.nesting.Role.TheVariants.{Declaration, BeginLoop, Plain}
 use Rattle.flat_programs.specs.declared.statements.Flat.{Flat}
-use Rattle.flat_programs.specs.declared.statements.Flat.TheVariants.{Mark, Assignment, Output, LogicalIf, ArithmeticIf, ComputedGoTo, DoLoop, Jump, Finish}
 use Rattle.flat_programs.specs.declared.statements.FlatLine.{FlatLine}
 use Rattle.flat_programs.specs.Declarations.{declared}
 use Rattle.flat_programs.specs.FlatForm.{IsFlat, IsSpan, IsNumber, HasNumbers, range_end}
@@ -27,6 +25,7 @@ use Rattle.read_back.proofs.DeclaredEach.{declared_each}
 use Rattle.read_back.proofs.MarkPlaces.{IsMarkAt, mark_of, place_of-mark}
 use Rattle.read_back.proofs.PrintedLabels.{again, marks_few}
 use Rattle.read_back.proofs.PrintedPlaces.{got_within, IsDeclaredAt, IsFlatAt, first_flat, flat_at, declared_at}
+use Rattle.std.proofs.lemmas.Grind.{elements}
 
 -- ---- walks
 
@@ -53,16 +52,10 @@ never_unnested Inv stmts step holds = walk Inv stmts step 0 stmts (λ j s is. le
 
 without_none : (label : ℕ) (stack : List Opened) → has_loop_to itself label stack ≡ false → without_loops itself label stack ≡ stack
 without_none label [] none = refl
-without_none label (top ∷ rest) none =
-    ap (λ b. cond b (without_loops itself label rest) (top ∷ rest)) (first (is_loop_to label top) (has_loop_to itself label rest) none)
-  where
-    first : (a b : Bool) → (a || b) ≡ false → a ≡ false
-    first true b h = absurd cc
-    first false b h = refl
+without_none label (top ∷ rest) none = grind arith
 
 ends_none : (label : ℕ) (stack : List Opened) → has_loop_to itself label stack ≡ false → after_ends itself label (without_loops itself label stack) ≡ Some stack
-ends_none label stack none =
-    ap (after_ends itself label) (without_none label stack none) ∙ ap (λ b. cond b None (Some stack)) none
+ends_none label stack none = grind (arith, without_none label stack none)
 
 abbrev gone_by : Role → (label : ℕ) → List Opened → Option (List Opened)
 gone_by role label stack = after_role itself itself role label stack
@@ -77,10 +70,7 @@ passes_on s stack none = ap (λ b. cond (b && is_no_end (role_of s.stmt)) None (
 
 -- one at which ranges may end, or a declaration
 may_end : (s : Labelled) (stack : List Opened) (role : Role) → role_of s.stmt ≡ role → is_no_end role ≡ false → open_after s stack ≡ gone_by role s.label stack
-may_end s stack role is can =
-    ap (λ (r : Role). stack_after itself itself r s.label stack) is
-    ∙ ap (λ b. cond (has_loop_to itself s.label stack && b) None (gone_by role s.label stack)) can
-    ∙ ap (λ b. cond b None (gone_by role s.label stack)) (never (has_loop_to itself s.label stack))
+may_end s stack role is can = grind (arith, never (has_loop_to itself s.label stack))
 
 -- ---- what is open
 
@@ -117,14 +107,7 @@ module _ (flat : List FlatLine) (form : IsFlat flat) where
   ends_at_mark head last span = subst (IsMarkAt flat span.end) (sym span.place) (mark_of flat span.end (number-of head last span))
 
   ends_at_no_other : (place : ℕ) (l : FlatLine) → slice_get flat place ≡ Some l → is_mark l.stmt ≡ false → (head last : ℕ) → IsSpan flat head last → last ≢ place
-  ends_at_no_other place l is other head last span same =
-      let mark = ends_at_mark head last span in
-      let there : slice_get flat place ≡ Some mark.l = ap (slice_get flat) (sym same) ∙ mark.there in
-      let some : Some l ≡ Some mark.l = sym is ∙ there in
-      let equal : l ≡ mark.l = cc in
-      let marks : is_mark l.stmt ≡ true = ap (λ (m : FlatLine). is_mark m.stmt) equal ∙ mark.marks in
-      let wrong : true ≡ false = sym marks ∙ other in
-      absurd cc
+  ends_at_no_other place l is other head last span same = grind (arith, ends_at_mark head last span)
 
   -- ---- one place on
 
@@ -184,16 +167,10 @@ module _ (flat : List FlatLine) (form : IsFlat flat) where
   -- ---- spans
 
   one_last : (head last other : ℕ) → IsSpan flat head last → IsSpan flat head other → last ≡ other
-  one_last head last other a b =
-      let same : a.end ≡ b.end = sym (number-is head last a) ∙ number-is head other b in
-      a.place ∙ ap (place_of flat) same ∙ sym b.place
+  one_last head last other a b = cc
 
   begins_no_range : (place : ℕ) (l : FlatLine) → slice_get flat place ≡ Some l → range_end l.stmt ≡ [] → (last : ℕ) → IsSpan flat place last → ⊥
-  begins_no_range place l is none last span =
-      let some : Some span.here ≡ Some l = sym span.is ∙ is in
-      let equal : span.here ≡ l = cc in
-      let wrong : span.end ∷ [] ≡ [] = sym span.ends ∙ ap (λ (m : FlatLine). range_end m.stmt) equal ∙ none in
-      absurd cc
+  begins_no_range place l is none last span = cc
 
   -- what is open after a statement
   record NextOpen (place : ℕ) (s : Labelled) (old : List ℕ) : Type 0 where
@@ -212,17 +189,7 @@ module _ (flat : List FlatLine) (form : IsFlat flat) where
 
   plain_step : (place : ℕ) (l : FlatLine) → slice_get flat place ≡ Some l → is_mark l.stmt ≡ false → range_end l.stmt ≡ [] → (s : Labelled) (role : Role) → s.label ≡ 0 → role_of s.stmt ≡ role → ((stack : List Opened) → gone_by role 0 stack ≡ after_ends itself 0 (without_loops itself 0 stack)) → (heads : List ℕ) → AreOpen place place heads → NextOpen place s heads
   plain_step place l there other none s role label is goes heads are =
-      let stack = map loop_from heads in
-      let zero_none = no_loop_to_zero place place heads are in
-      record {
-        heads = heads;
-        is = passes_on s stack (ap (λ n. has_loop_to itself n stack) label ∙ zero_none)
-            ∙ ap (λ n. gone_by (role_of s.stmt) n stack) label
-            ∙ ap (λ (r : Role). gone_by r 0 stack) is
-            ∙ goes stack
-            ∙ ends_none 0 stack zero_none;
-        are = stays_open place heads (ends_at_no_other place l there other) (begins_no_range place l there none) are;
-      }
+      grind (arith, no_loop_to_zero place place heads are, passes_on s, ends_none 0, stays_open place heads (ends_at_no_other place l there other) (begins_no_range place l there none) are, ends_at_no_other place l there other, begins_no_range place l there none)
 
   do_step : (place : ℕ) (l : FlatLine) → slice_get flat place ≡ Some l → is_mark l.stmt ≡ false → (end : ℕ) → range_end l.stmt ≡ end ∷ [] → (s : Labelled) → s.label ≡ 0 → role_of s.stmt ≡ BeginLoop end → (heads : List ℕ) → AreOpen place place heads → NextOpen place s heads
   do_step place l there other end range s label is heads are =
@@ -261,12 +228,7 @@ module _ (flat : List FlatLine) (form : IsFlat flat) where
 
   end_step : (place : ℕ) (l : FlatLine) → slice_get flat place ≡ Some l → is_mark l.stmt ≡ false → range_end l.stmt ≡ [] → suc place ≡ length flat → (s : Labelled) → open_after s [] ≡ Some [] → (heads : List ℕ) → AreOpen place place heads → NextOpen place s heads
   end_step place l there other none last_one s ends heads are =
-      let nothing = closed place l there other last_one heads are in
-      record {
-        heads = heads;
-        is = ap (λ hs. open_after s (map loop_from hs)) nothing ∙ ends ∙ ap (λ hs. Some (map loop_from hs)) (sym nothing);
-        are = stays_open place heads (ends_at_no_other place l there other) (begins_no_range place l there none) are;
-      }
+      grind (arith, closed place l there other last_one heads are, stays_open place heads (ends_at_no_other place l there other) (begins_no_range place l there none) are, ends_at_no_other place l there other, begins_no_range place l there none)
 
   -- ---- marks
 
@@ -370,8 +332,7 @@ module _ (q : Program) (flat : List FlatLine) (form : IsFlat flat) (few : length
     unlabelled stmt same other = is.label ∙ ap (λ t. cond (is_mark t) (mark_at flat place) 0) same ∙ ap (λ b. cond b (mark_at flat place) 0) other
 
     plain : (stmt : Flat) (role : Role) → is.l.stmt ≡ stmt → is_mark stmt ≡ false → range_end stmt ≡ [] → role_of (statement_of (shown q.names stmt)) ≡ role → ((stack : List Opened) → gone_by role 0 stack ≡ after_ends itself 0 (without_loops itself 0 stack)) → Next
-    plain stmt role same other none plays goes =
-        plain_step flat form place is.l is.there (ap is_mark same ∙ other) (ap range_end same ∙ none) s role (unlabelled stmt same other) (ap role_of (shown_as stmt same) ∙ plays) goes heads are
+    plain stmt role same other none plays goes = grind (arith, elements, plain_step, unlabelled, shown_as)
 
     plain_if : (b : Bool) (v w : WrittenStatement) → role_of (statement_of v) ≡ Plain → role_of (statement_of w) ≡ Plain → role_of (statement_of (cond b v w)) ≡ Plain
     plain_if true v w a c = a
@@ -382,25 +343,7 @@ module _ (q : Program) (flat : List FlatLine) (form : IsFlat flat) (few : length
         again end (mark_count flat) (marks_few q flat form few) (number-of flat form place (place_of flat end) (record { here = is.l; is = is.there; end = end; ends = range; place = refl }))
 
     step_by : (stmt : Flat) → is.l.stmt ≡ stmt → Next
-    step_by Mark same =
-        mark_step flat form place is.l is.there (ap is_mark same) (ap range_end same) s
-        (is.label ∙ ap (λ t. cond (is_mark t) (mark_at flat place) 0) same)
-        (ap role_of (shown_as Mark same))
-        heads are
-    step_by (Assignment target value) same =
-        plain (Assignment target value) Plain same refl refl (plain_if (words_taken value == 1) _ _ refl refl) (λ stack. refl)
-    step_by (Output items) same = plain (Output items) Plain same refl refl refl (λ stack. refl)
-    step_by (LogicalIf condition target) same = plain (LogicalIf condition target) Plain same refl refl refl (λ stack. refl)
-    step_by (ArithmeticIf value below at above) same = plain (ArithmeticIf value below at above) Leave same refl refl refl (λ stack. refl)
-    step_by (ComputedGoTo value targets) same = plain (ComputedGoTo value targets) Plain same refl refl refl (λ stack. refl)
-    step_by (DoLoop end var first last step) same =
-        let range : range_end is.l.stmt ≡ end ∷ [] = ap range_end same in
-        let role = ap role_of (shown_as (DoLoop end var first last step) same) ∙ ap BeginLoop (ranges end range) in
-        do_step flat form place is.l is.there (ap is_mark same) end range s (unlabelled (DoLoop end var first last step) same refl) role heads are
-    step_by (Jump target) same = plain (Jump target) Leave same refl refl refl (λ stack. refl)
-    step_by Finish same =
-        let ends : open_after s [] ≡ Some [] = ap (λ n. open_after (record { label = n; line = s.line; stmt = s.stmt }) []) (unlabelled Finish same refl) ∙ ap (λ t. open_after (record { label = 0; line = s.line; stmt = t }) []) (shown_as Finish same) in
-        end_step flat form place is.l is.there (ap is_mark same) (ap range_end same) ((form.ended place is.l is.there).0 same) s ends heads are
+    step_by h same = search (mark_step, shown_as, plain, plain_if, ranges, do_step, unlabelled, end_step, arith)
 
   -- what is open at a statement
   record OpenAt (k : ℕ) (stack : List Opened) : Type 0 where
@@ -409,9 +352,7 @@ module _ (q : Program) (flat : List FlatLine) (form : IsFlat flat) (few : length
     are : AreOpen flat form (k - first_flat q flat) (k - first_flat q flat) heads
 
   begins : OpenAt 0 []
-  begins =
-      let none : 0 - first_flat q flat ≡ 0 = omega arith in
-      record { heads = []; is = refl; are = λ head last span lt. absurd (omega (arith, lt, none)) }
+  begins = grind (arith, first_flat q flat)
 
   step : (k : ℕ) (s : Labelled) (stack : List Opened) → slice_get stmts k ≡ Some s → OpenAt k stack → GoesOn OpenAt k s stack
   step k s stack there open_now =

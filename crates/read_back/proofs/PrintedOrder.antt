@@ -1,18 +1,17 @@
 -- No statement of a printed program is out of order: the declarations of names, COMMON and EQUIVALENCE come first, then DATA and the
 -- flat statements, and END is the last one.
-use Rattle.std.proofs.Common.{◌≡◌, ◌==◌, ℕ, suc, ◌+◌, ◌-◌, ◌<◌, ◌≤◌, Bool, true, false, cond, List, ◌++◌, length, map, ◌&&◌, ◌||◌, nat_lt, refl, sym, ap, ◌∙◌, subst, ⊎_elim, ◌⊎◌, inl, inr, arith, Some, None, length-append}
+use Rattle.std.proofs.Common.{◌≡◌, ◌==◌, ℕ, suc, ◌+◌, ◌-◌, ◌<◌, ◌≤◌, Bool, true, false, cond, List, ◌++◌, length, map, ◌&&◌, ◌||◌, nat_lt, refl, sym, ap, ◌∙◌, subst, ⊎_elim, ◌⊎◌, arith, Some, None, length-append}
 use Rattle.std.specs.Prelude.{All, slice_get}
 use Rattle.std.proofs.lemmas.Bool.{cases_lt, le-ltb, ne_eqb}
 use Rattle.f77_tree.specs.declared.programs.NameInfo.{NameInfo}
 use Rattle.f77_tree.specs.declared.programs.Program.{Program}
 use Rattle.f77_tree.specs.declared.statements.Labelled.{Labelled}
-use Rattle.f77_tree.specs.Execution.{words_taken}
 use Rattle.f77_tree.specs.StatementGrammar.{WrittenStatement, statement_of}
 use Rattle.f77_tree.proofs.AllLemmas.{All-get, get-longer}
 use Rattle.layout_rules.specs.Faults.{first_line}
 use Rattle.layout_rules.specs.Order.{rank, is_out_of_order}
 use Rattle.flat_programs.specs.declared.statements.Flat.{Flat}
-use Rattle.flat_programs.specs.declared.statements.Flat.TheVariants.{Mark, Assignment, Output, LogicalIf, ArithmeticIf, ComputedGoTo, DoLoop, Jump, Finish}
+use Rattle.flat_programs.specs.declared.statements.Flat.TheVariants.{Finish}
 use Rattle.flat_programs.specs.declared.statements.FlatLine.{FlatLine}
 use Rattle.flat_programs.specs.Declarations.{typed_name, commons, group_statement, init_statement, declared}
 use Rattle.flat_programs.specs.FlatForm.{IsFlat}
@@ -38,15 +37,7 @@ rank_if true v w a b = a
 rank_if false v w a b = b
 
 flat_rank : (names : List NameInfo) (stmt : Flat) → (stmt ≡ Finish) ⊎ HasRank 3 (shown names stmt)
-flat_rank names Mark = inr refl
-flat_rank names (Assignment target value) = inr (rank_if (words_taken value == 1) _ _ refl refl)
-flat_rank names (Output items) = inr refl
-flat_rank names (LogicalIf condition target) = inr refl
-flat_rank names (ArithmeticIf value below at above) = inr refl
-flat_rank names (ComputedGoTo value targets) = inr refl
-flat_rank names (DoLoop end var first last step) = inr refl
-flat_rank names (Jump target) = inr refl
-flat_rank names Finish = inl refl
+flat_rank names h = grind (arith, rank_if)
 
 -- ---- ranks rise
 
@@ -81,18 +72,7 @@ module _ (q : Program) (flat : List FlatLine) (form : IsFlat flat) where
   storage_few = omega (arith, length-append (storage_statements q) (map init_statement q.inits))
 
   flat_ranked : (place : ℕ) (s : Labelled) → IsFlatAt q flat place s → IsRanked storage total (first_flat q flat + place) (rank s.stmt)
-  flat_ranked place s is =
-      let count = statement_count q flat in
-      let few = storage_few in
-      ⊎_elim
-      (λ (finish : is.l.stmt ≡ Finish).
-      let last : suc place ≡ length flat = (form.ended place is.l is.there).0 finish in
-      let four : rank s.stmt ≡ 4 = ap rank is.stmt ∙ ap (λ stmt. rank (statement_of (shown q.names stmt))) finish in
-      record { early = λ h. absurd (omega (arith, few, h)); late = λ h. omega (arith, four); most = λ h. absurd (omega (arith, count, last, h)) })
-      (λ (is_three : HasRank 3 (shown q.names is.l.stmt)).
-      let three : rank s.stmt ≡ 3 = ap rank is.stmt ∙ is_three in
-      record { early = λ h. absurd (omega (arith, few, h)); late = λ h. omega (arith, three); most = λ h. omega (arith, three) })
-      (flat_rank q.names is.l.stmt)
+  flat_ranked place s is = grind (arith, statement_count q flat, storage_few, flat_rank q.names)
 
   ranked : (k : ℕ) (s : Labelled) → slice_get (statements_read q flat) k ≡ Some s → IsRanked storage total k (rank s.stmt)
   ranked k s is =
@@ -106,10 +86,7 @@ module _ (q : Program) (flat : List FlatLine) (form : IsFlat flat) where
   -- ---- the order
 
   in_order : (a s : ℕ) → a ≤ s → 2 ≤ a → a ≤ 3 → (nat_lt s a || (a == 0 && s == 0) || a == 4) ≡ false
-  in_order a s le least most =
-      ap (λ b. b || (a == 0 && s == 0) || a == 4) (le-ltb s a le)
-      ∙ ap (λ b. (b && s == 0) || a == 4) (ne_eqb a 0 (λ e. omega (arith, e, least)))
-      ∙ ne_eqb a 4 (λ e. omega (arith, e, most))
+  in_order a s le least most = grind (arith, le-ltb s a le, ne_eqb a 0, ne_eqb a 4)
 
   before : (j k : ℕ) (a s : Labelled) → j < k → slice_get (statements_read q flat) j ≡ Some a → slice_get (statements_read q flat) k ≡ Some s → (nat_lt (rank s.stmt) (rank a.stmt) || (rank a.stmt == 0 && rank s.stmt == 0) || rank a.stmt == 4) ≡ false
   before j k a s lt there is =
@@ -131,5 +108,4 @@ module _ (q : Program) (flat : List FlatLine) (form : IsFlat flat) where
       (cases_lt k storage)
 
   pub none_out_of_order : first_line is_out_of_order (statements_read q flat) ≡ None
-  none_out_of_order =
-      none_faulty is_out_of_order (statements_read q flat) (λ k s is. none_above (λ (a : Labelled). nat_lt (rank s.stmt) (rank a.stmt) || (rank a.stmt == 0 && rank s.stmt == 0) || rank a.stmt == 4) (statements_read q flat) k (λ j a lt there. before j k a s lt there is))
+  none_out_of_order = grind (arith, none_faulty is_out_of_order (statements_read q flat), none_above, before)

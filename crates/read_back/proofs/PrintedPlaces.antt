@@ -33,9 +33,7 @@ got_within (y ∷ ys) (suc k) x is = let more = got_within ys k x is in omega (a
 
 pub get-after : {X : Type 0} (xs ys : List X) (k : ℕ) → slice_get (xs ++ ys) (length xs + k) ≡ slice_get ys k
 get-after [] ys k = let e : 0 + k ≡ k = omega arith in ap (slice_get ys) e
-get-after (x ∷ xs) ys k =
-    let e : suc (length xs) + k ≡ suc (length xs + k) = omega arith in
-    ap (slice_get (x ∷ (xs ++ ys))) e ∙ get-after xs ys k
+get-after (x ∷ xs) ys k = grind (arith, get-after xs ys k)
 
 pub get-map : {X Y : Type 0} (f : X → Y) (xs : List X) (k : ℕ) (x : X) → slice_get xs k ≡ Some x → slice_get (map f xs) k ≡ Some (f x)
 get-map f [] k x is = absurd cc
@@ -60,9 +58,7 @@ read_at line [] k w is = absurd cc
 read_at line (v ∷ ss) zero w is =
     let same : v ≡ w = cc in
     record { s = record { label = v.label; line = line; stmt = statement_of v.written }; stands = refl; label = ap (λ (x : LabelledStatement). x.label) same; stmt = ap (λ (x : LabelledStatement). statement_of x.written) same }
-read_at line (v ∷ ss) (suc k) w is =
-    let more = read_at (line + line_count (typeset v.written)) ss k w is in
-    record { s = more.s; stands = more.stands; label = more.label; stmt = more.stmt }
+read_at line (v ∷ ss) (suc k) w is = search (read_at (line + line_count (typeset v.written)) ss k w is, arith)
 
 -- ---- flat statements
 
@@ -78,21 +74,12 @@ module _ (names : List NameInfo) (flat : List FlatLine) where
 
   length-from : (k n : ℕ) → k + n ≡ length flat → length (from k n) ≡ n
   length-from k zero sum = refl
-  length-from k (suc n) sum =
-      let found = get_some flat k (omega (arith, sum)) in
-      ap length (one_from k n found.0 found.1) ∙ ap suc (length-from (k + 1) n (omega (arith, sum)))
+  length-from k (suc n) sum = grind (arith, get_some flat k, one_from k n, length-from (k + 1) n)
 
   get_from : (k n j : ℕ) (l : FlatLine) → k + n ≡ length flat → j < n → slice_get flat (k + j) ≡ Some l → slice_get (from k n) j ≡ Some (written_one names flat (k + j) l)
   get_from k zero j l sum lt is = absurd (omega (arith, lt))
-  get_from k (suc n) zero l sum lt is =
-      let e : k + 0 ≡ k = omega arith in
-      ap (λ ss. slice_get ss 0) (one_from k n l (ap (slice_get flat) (sym e) ∙ is)) ∙ ap (λ i. Some (written_one names flat i l)) (sym e)
-  get_from k (suc n) (suc j) l sum lt is =
-      let found = get_some flat k (omega (arith, sum)) in
-      let e : k + 1 + j ≡ k + suc j = omega arith in
-      ap (λ ss. slice_get ss (suc j)) (one_from k n found.0 found.1)
-      ∙ get_from (k + 1) n j l (omega (arith, sum)) (omega (arith, lt)) (ap (slice_get flat) e ∙ is)
-      ∙ ap (λ i. Some (written_one names flat i l)) e
+  get_from k (suc n) zero l sum lt is = grind (arith, one_from k n l)
+  get_from k (suc n) (suc j) l sum lt is = grind (arith, get_some flat k, one_from k n, get_from (k + 1) n j l)
 
 -- ---- all statements
 
@@ -133,12 +120,7 @@ module _ (q : Program) (flat : List FlatLine) where
 
   pub statement_count : length (statements_read q flat) ≡ first_flat + length flat
   statement_count =
-      let e : 0 + length flat ≡ length flat = omega arith in
-      let a = labelled-length 1 (written_statements q flat) in
-      let b = length-append front rest in
-      let c = length-from q.names flat 0 (length flat) e in
-      let d = front-length in
-      omega (arith, a, b, c, d)
+      grind (arith, labelled-length 1 (written_statements q flat), length-append front rest, length-from q.names flat 0 (length flat), front-length)
 
   pub has_statement : (place : ℕ) (l : FlatLine) → slice_get flat place ≡ Some l → HasStatement q flat (first_flat + place) place l
   has_statement place l is =

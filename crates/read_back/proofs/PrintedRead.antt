@@ -1,19 +1,16 @@
 -- Printed statements are read from their lines.
-use Rattle.std.proofs.Common.{◌≡◌, ◌==◌, ℕ, zero, suc, ◌+◌, ◌-◌, ◌*◌, ◌<◌, ◌≤◌, Bool, true, false, cond, List, [], ◌∷◌, ◌++◌, length, map, take, drop, Option, None, Ok, Err, refl, sym, ap, ◌∙◌, subst, arith}
+use Rattle.std.proofs.Common.{◌≡◌, ◌==◌, ℕ, zero, suc, ◌+◌, ◌-◌, ◌<◌, ◌≤◌, Bool, true, cond, List, [], ◌∷◌, ◌++◌, length, map, Option, None, Ok, refl, sym, ap, ◌∙◌, arith}
 use Rattle.std.specs.Prelude.{flat_map, codes}
-use Rattle.std.specs.List.{list_all, range_with_len, All, filter}
-use Rattle.std.specs.Str.Lines.{lines}
+use Rattle.std.specs.List.{list_all, range_with_len, All}
 use Rattle.std.proofs.Math.Dec.{eqb-suc-zero}
 use Rattle.std.proofs.lemmas.Bool.{and_from, not-true}
 use Rattle.std.proofs.lemmas.List.Concat.{flat_map-append}
 use Rattle.std.proofs.lemmas.List.Folds.{list_all-append}
 use Rattle.fixed_form.specs.declared.raw_stmt.RawStmt.{RawStmt}
 use Rattle.fixed_form.specs.declared.form_end.FormEnd.{FormEnd}
-use Rattle.fixed_form.specs.declared.form_end.FormEnd.TheVariants.{NoEnd}
 use Rattle.fixed_form.specs.Columns.{is_character}
-use Rattle.fixed_form.specs.SourceLine.{numbered_from, source_lines, is_statement_line}
-use Rattle.fixed_form.specs.Statement.{statements_of, ends_with_end, text}
-use Rattle.fixed_form.specs.Fault.{first_fault}
+use Rattle.fixed_form.specs.SourceLine.{numbered_from}
+use Rattle.fixed_form.specs.Statement.{ends_with_end, text}
 use Rattle.fixed_form.specs.Reading.{outcome, reading}
 use Rattle.flat_programs.specs.Lines.{Typeset, digits_of_label, right_justified, line_count, line_of, lines_of}
 use Rattle.read_back.specs.ReadLines.{CanStand, begins_visibly, read_from}
@@ -45,26 +42,18 @@ line_later t k = ap (λ (b : Bool). cond b (right_justified (digits_of_label t.l
 lines_later : (t : Typeset) (k n : ℕ) → flat_map (line_of t) (range_with_len (suc k) n) ≡ flat_map ended (next_lines t.text (suc k) n)
 lines_later t k zero = refl
 lines_later t k (suc n) =
-    let e : suc k + 1 ≡ suc (suc k) = omega arith in
-    ap (λ l. l ++ flat_map (line_of t) (range_with_len (suc k + 1) n)) (line_later t k)
-    ∙ ap (λ ls. ended (next_line t.text (suc k)) ++ ls) (ap (λ m. flat_map (line_of t) (range_with_len m n)) e ∙ lines_later t (suc k) n ∙ ap (λ m. flat_map ended (next_lines t.text m n)) (sym e))
+    grind (arith, line_later t k, ended (next_line t.text (suc k)), next_line t.text (suc k), lines_later t (suc k) n, ended, next_lines t.text)
 
 as_lines : (t : Typeset) → 0 < length t.text → lines_of t ≡ flat_map ended (raw_lines t)
-as_lines t some =
-    ap (λ n. flat_map (line_of t) (range_with_len 0 n)) (counted t.text some) ∙ ap (λ ls. line_of t 0 ++ ls) (lines_later t 0 (continued t.text))
+as_lines t some = grind (arith, counted t.text some, lines_later t 0 (continued t.text))
 
 later_lines : (xs : List ℕ) (k n : ℕ) → list_all is_character xs ≡ true → AreLines (next_lines xs k n)
 later_lines xs k zero all = tt
-later_lines xs k (suc n) all =
-    (all_taken is_character 66 (drop (66 * k) xs) (all_dropped is_character (66 * k) xs all), later_lines xs (k + 1) n all)
+later_lines xs k (suc n) all = search (all_taken, all_dropped, later_lines xs (k + 1) n all, arith)
 
 are_lines : (t : Typeset) → CanStand t → AreLines (raw_lines t)
 are_lines t can =
-    let columns = columns_of t.label in
-    let tells = tells_label t.label can.label in
-    let here = take 66 t.text in
-    let margin : list_all is_character (columns ++ codes " ") ≡ true = list_all-append is_character columns (codes " ") ∙ and_from (list_all is_character columns) true tells.characters refl in
-    (list_all-append is_character (columns ++ codes " ") here ∙ and_from (list_all is_character (columns ++ codes " ")) (list_all is_character here) margin (all_taken is_character 66 t.text can.characters), later_lines t.text 1 (continued t.text) can.characters)
+    grind (arith, columns_of t.label, tells_label t.label can.label, list_all-append is_character, and_from, all_taken is_character 66 t.text can.characters, later_lines t.text 1 (continued t.text) can.characters)
 
 raw_count : (t : Typeset) → 0 < length t.text → length (raw_lines t) ≡ line_count t.text
 raw_count t some = ap suc (raw_next 1 (continued t.text)) ∙ sym (counted t.text some)
@@ -77,18 +66,13 @@ abbrev block_at : ℕ → Typeset → Block
 block_at line t = block_of (columns_of t.label) t.text line (continued t.text)
 
 fine : (line : ℕ) (t : Typeset) (xs : List ℕ) → CanStand t → t.text ≡ xs → IsBlock (block_at line t)
-fine line t [] can is =
-    let e : false ≡ true = ap begins_visibly (sym is) ∙ can.begins in
-    absurd cc
+fine line t [] can is = cc
 fine line t (c ∷ xs) can is =
-    let P : List ℕ → Type 0 = λ ys. list_all is_character ys ≡ true → length ys ≤ 1320 → IsBlock (block_of (columns_of t.label) ys line (continued ys)) in
-    let Q : P (c ∷ xs) = λ all short. block_fine t.label (columns_of t.label) c xs line (continued (c ∷ xs)) (tells_label t.label can.label) (not-true (c == 32) (ap begins_visibly (sym is) ∙ can.begins)) all (omega (arith, short)) in
-    subst P (sym is) Q can.characters can.short
+    grind (arith, block_of (columns_of t.label), columns_of t.label, block_fine t.label (columns_of t.label) c xs line (continued (c ∷ xs)) (tells_label t.label can.label), tells_label t.label can.label, not-true (c == 32))
 
 reads : (line : ℕ) (t : Typeset) → CanStand t → block_statement (block_at line t) ≡ record { label = t.label; line = line; text = text t.text }
 reads line t can =
-    let some = visible_some t.text can.begins in
-    block_reads t.label (columns_of t.label) t.text line (continued t.text) (tells_label t.label can.label) (omega (arith, some)) (omega (arith, some)) can.closed
+    grind (arith, visible_some t.text can.begins, block_reads t.label (columns_of t.label) t.text line (continued t.text) (tells_label t.label can.label), columns_of t.label, tells_label t.label can.label)
 
 -- ---- all statements
 
@@ -117,16 +101,12 @@ all_are_lines (t ∷ ts) can = both_lines (raw_lines t) (all_raw ts) (are_lines 
 all_as_lines : (ts : List Typeset) → AllStand ts → flat_map lines_of ts ≡ flat_map ended (all_raw ts)
 all_as_lines [] can = refl
 all_as_lines (t ∷ ts) can =
-    ap (λ ls. ls ++ flat_map lines_of ts) (as_lines t (visible_some t.text can.0.begins))
-    ∙ ap (λ ls. flat_map ended (raw_lines t) ++ ls) (all_as_lines ts can.1)
-    ∙ sym (flat_map-append ended (raw_lines t) (all_raw ts))
+    grind (arith, as_lines t (visible_some t.text can.0.begins), visible_some t.text can.0.begins, ended, all_as_lines ts can.1, flat_map-append ended (raw_lines t) (all_raw ts))
 
 all_numbered : (line : ℕ) (ts : List Typeset) → AllStand ts → numbered_from line (all_raw ts) ≡ all_lines (blocks_from line ts)
 all_numbered line [] can = refl
 all_numbered line (t ∷ ts) can =
-    numbered-append line (raw_lines t) (all_raw ts)
-    ∙ ap (λ n. numbered_from line (raw_lines t) ++ numbered_from (line + n) (all_raw ts)) (raw_count t (visible_some t.text can.0.begins))
-    ∙ ap (λ ls. block_lines (block_at line t) ++ ls) (all_numbered (line + line_count t.text) ts can.1)
+    grind (arith, numbered-append line (raw_lines t) (all_raw ts), raw_count t (visible_some t.text can.0.begins), visible_some t.text can.0.begins, block_lines (block_at line t), all_numbered (line + line_count t.text) ts can.1)
 
 are_blocks : (line : ℕ) (ts : List Typeset) → AllStand ts → AreBlocks (blocks_from line ts)
 are_blocks line [] can = tt
@@ -138,21 +118,12 @@ block_count line (t ∷ ts) = ap suc (block_count (line + line_count t.text) ts)
 
 all_read : (line : ℕ) (ts : List Typeset) → AllStand ts → map block_statement (blocks_from line ts) ≡ read_from line ts
 all_read line [] can = refl
-all_read line (t ∷ ts) can =
-    ap (λ s. s ∷ map block_statement (blocks_from (line + line_count t.text) ts)) (reads line t can.0)
-    ∙ ap (λ ss. record { label = t.label; line = line; text = text t.text } ∷ ss) (all_read (line + line_count t.text) ts can.1)
+all_read line (t ∷ ts) can = grind (arith, block_statement, reads line t can.0, all_read (line + line_count t.text) ts can.1)
 
 -- what a text without fault is
 no_fault_reads : (faults : Option FormEnd) (statements read : List RawStmt) (n : ℕ) → faults ≡ None → statements ≡ read → ends_with_end read ≡ true → outcome faults statements n ≡ Ok read
-no_fault_reads faults statements read n none is end =
-    ap (λ f. outcome f statements n) none ∙ ap (λ s. outcome None s n) is ∙ ap (λ (b : Bool). cond b (Ok read) (Err (NoEnd (n + 1)))) end
+no_fault_reads faults statements read n none is end = cc
 
 pub printed_read : (ts : List Typeset) → length ts ≤ 4000 → All CanStand ts → ends_with_end (read_from 1 ts) ≡ true → reading (flat_map lines_of ts) ≡ Ok (read_from 1 ts)
 printed_read ts few each end =
-    let can = all_stand_from ts each in
-    let blocks = blocks_from 1 ts in
-    let are = are_blocks 1 ts can in
-    let source : source_lines (flat_map lines_of ts) ≡ all_lines blocks = ap (λ bytes. numbered_from 1 (lines bytes)) (all_as_lines ts can) ∙ ap (numbered_from 1) (lines_again (all_raw ts) (all_are_lines ts can)) ∙ all_numbered 1 ts can in
-    let count = block_count 1 ts in
-    ap (λ ls. outcome (first_fault [] ls) (statements_of (filter is_statement_line ls)) (length ls)) source
-    ∙ no_fault_reads (first_fault [] (all_lines blocks)) (statements_of (filter is_statement_line (all_lines blocks))) (read_from 1 ts) (length (all_lines blocks)) (no_fault [] blocks are (omega (arith, few, count))) (ap statements_of (all_stand blocks are) ∙ block_statements blocks are ∙ all_read 1 ts can) end
+    grind (arith, all_stand_from ts each, are_blocks 1 ts, all_lines, all_as_lines ts, lines_again (all_raw ts), all_are_lines ts, all_numbered 1 ts, block_count 1 ts, no_fault_reads, no_fault, all_stand, block_statements, all_read 1 ts)

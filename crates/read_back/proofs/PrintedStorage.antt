@@ -1,5 +1,5 @@
 -- The storage that a printed program is read with is that of the program: its places are right, and each name has its own.
-use Rattle.std.proofs.Common.{◌≡◌, ℕ, zero, suc, ◌+◌, ◌<◌, ⊎_elim, ℤ, pos, Bool, true, false, cond, not, List, [], ◌∷◌, ◌++◌, length, map, take, drop, All, Contains, Option, Some, None, refl, sym, ap, subst, ◌∙◌, arith, append-nil, append_assoc}
+use Rattle.std.proofs.Common.{◌≡◌, ℕ, zero, suc, ◌+◌, ◌<◌, ⊎_elim, ℤ, pos, Bool, true, false, not, List, [], ◌∷◌, ◌++◌, length, map, take, drop, All, Contains, Option, Some, None, refl, sym, ap, subst, ◌∙◌, arith, append-nil, append_assoc}
 use Rattle.std.specs.Prelude.{◌&&◌, filter, flat_map, slice_get, bytes_eq}
 use Rattle.std.specs.List.{list_any}
 use Rattle.std.proofs.lemmas.Int.{ints}
@@ -54,6 +54,7 @@ use Rattle.layout_rules.proofs.RightPlaces.{same_block-itself}
 use Rattle.read_back.proofs.RightPlaces.{MeetRules, right_places}
 use Rattle.read_back.proofs.SameEquations.{AreAlike, equations-to, equations-from, standing-names}
 use Rattle.read_back.proofs.StatementParts.{HoldsOfRead}
+use Rattle.std.proofs.lemmas.Grind.{elements}
 
 -- ---- lists
 
@@ -61,10 +62,7 @@ use Rattle.read_back.proofs.StatementParts.{HoldsOfRead}
 pub split_at : {X Y : Type 0} (f : X → List Y) (xs : List X) (k : ℕ) (x : X) → slice_get xs k ≡ Some x → flat_map f xs ≡ (flat_map f (take k xs) ++ f x) ++ flat_map f (drop (suc k) xs)
 split_at f [] k x is = absurd cc
 split_at f (y ∷ ys) zero x is = let same : y ≡ x = cc in ap (λ z. f z ++ flat_map f ys) same
-split_at f (y ∷ ys) (suc k) x is =
-    let a = flat_map f (take k ys) in
-    let c = flat_map f (drop (suc k) ys) in
-    ap (λ zs. f y ++ zs) (split_at f ys k x is) ∙ sym (append_assoc (f y) (a ++ f x) c) ∙ ap (λ zs. zs ++ c) (sym (append_assoc (f y) a (f x)))
+split_at f (y ∷ ys) (suc k) x is = grind (arith, elements, append_assoc, split_at f ys k x is)
 
 -- ---- names of blocks as they stand
 
@@ -75,10 +73,7 @@ named_in xs s there =
     (Member-map name_of (filter test xs) s (Member-filter test xs s (Member-from_Contains xs s there) (same_block-itself s.block)))
 
 named_first : (seen rest : List Standing) (s : Standing) → list_any (is_of s.block) seen ≡ false → slice_get (names_standing s.block (seen ++ s ∷ rest)) 0 ≡ Some s.name
-named_first seen rest s none =
-    let test = is_of s.block in
-    ap (λ (xs : List Standing). slice_get (map name_of xs) 0) (filter-append test seen (s ∷ rest) ∙ ap (λ (xs : List Standing). xs ++ filter test (s ∷ rest)) (filter_nothing test seen none))
-    ∙ ap (λ b. slice_get (map name_of (cond b (s ∷ filter test rest) (filter test rest))) 0) (same_block-itself s.block)
+named_first seen rest s none = grind (arith, elements, is_of, name_of, filter-append, filter_nothing, same_block-itself)
 
 -- ---- tables
 
@@ -96,18 +91,7 @@ dims_placed names k (info ∷ infos) spots zero = refl
 dims_placed names k (info ∷ infos) spots (suc x) = dims_placed names (k + 1) infos spots x
 
 no_parts : (names : List NameInfo) → HoldsOfRead (λ s. parts_of s ≡ []) names
-no_parts names = record {
-  mark = refl;
-  assigned = λ target value. refl;
-  taken = λ target. refl;
-  output = λ items. refl;
-  guarded = λ condition target. refl;
-  by_sign = λ value below at above. refl;
-  picked = λ value targets. refl;
-  loop = λ end var first last step. refl;
-  jump = λ target. refl;
-  finish = refl;
-}
+no_parts names = grind (arith, elements)
 
 -- ---- the whole program
 
@@ -250,8 +234,7 @@ module _ (q : Program) (flat : List FlatLine) (given : CanBeText q flat) (free :
         places
 
     differ : DifferInPlaces q.names (placed_names stmts)
-    differ =
-        sym (without_twice q.names) ∙ ap without_places (sym (table_same q flat given free)) ∙ sym (without_placed table 0 table (spots_of stmts))
+    differ = grind (arith, elements, without_twice, table_same, without_placed)
 
     -- each name has the place that it had
     pub table_again : placed_names (statements_read q flat) ≡ q.names

@@ -1,7 +1,7 @@
 -- The table of names of a printed program is its own, but for places: its names appear first, in the declarations of their kinds, and
 -- no other name appears.
 use Rattle.std.proofs.Common.{◌≡◌, ℕ, zero, suc, ◌+◌, ◌<◌, ◌≤◌, Bool, true, false, cond, not, List, [], ◌∷◌, ◌++◌, length, map, fold, filter, ◌==◌, nat_lt, refl, sym, ap, ◌∙◌, subst, ⊎_elim, arith, Option, Some, None, append-nil, append_assoc}
-use Rattle.std.specs.Prelude.{All, bytes_eq, codes, flat_map, slice_get}
+use Rattle.std.specs.Prelude.{All, bytes_eq, flat_map, slice_get}
 use Rattle.std.specs.List.{list_any}
 use Rattle.std.specs.Option.{is_some}
 use Rattle.std.proofs.lemmas.Bool.{cases_Bool}
@@ -66,6 +66,7 @@ use Rattle.read_back.proofs.PrintedPlaces.{get_some, got_within, get-map}
 use Rattle.read_back.proofs.ReadForms.{item_form, step_form, assigned_form, read_form, form_is}
 use Rattle.read_back.proofs.ShownForms.{value_proper}
 use Rattle.read_back.proofs.StatementParts.{read_stmt, after_names, parts_of_all, after_each}
+use Rattle.std.proofs.lemmas.Grind.{elements}
 
 -- ---- lists
 
@@ -239,13 +240,7 @@ module _ (q : Program) (flat : List FlatLine) (given : CanBeText q flat) (free :
   arrays_same name = ap (λ (dims : List Dim). nat_lt 0 (length dims)) (dims_are name)
 
   arrays_free : AreFree arrays
-  arrays_free = record {
-    abs = arrays_same (codes "ABS") ∙ free.abs;
-    mod_of = arrays_same (codes "MOD") ∙ free.mod_of;
-    sign = arrays_same (codes "SIGN") ∙ free.sign;
-    max_of = arrays_same (codes "MAX") ∙ free.max_of;
-    min_of = arrays_same (codes "MIN") ∙ free.min_of;
-  }
+  arrays_free = grind (arith, elements, arrays_same)
 
   flat_few : length flat ≤ 4000
   flat_few = let few = given.few in omega (arith, few)
@@ -310,8 +305,7 @@ module _ (q : Program) (flat : List FlatLine) (given : CanBeText q flat) (free :
 
   -- the table of the statements is that of the program, but for places
   pub table_same : names_of stmts ≡ without_places q.names
-  table_same =
-      ap (map (name_info stmts)) all_names_are ∙ map_twice (name_info stmts) named q.names ∙ map_same (λ (info : NameInfo). name_info stmts info.name) (λ (info : NameInfo). record info { place = 0 }) q.names info_same
+  table_same = grind (arith, elements, all_names_are, map_twice, map_same, info_same)
 
   pub none_real : first_line (has_real_name (statements_read q flat)) (statements_read q flat) ≡ None
   none_real =

@@ -1,5 +1,5 @@
 -- The form of a printed expression is resolved to the expression.
-use Rattle.std.proofs.Common.{◌≡◌, ℕ, ◌<◌, ◌≤◌, Bool, true, false, List, [], ◌∷◌, ◌++◌, length, map, refl, sym, ap, ◌∙◌, subst, arith, length-append, if◌then◌else◌, nat_lt}
+use Rattle.std.proofs.Common.{◌≡◌, ℕ, ◌<◌, ◌≤◌, Bool, true, false, List, [], ◌∷◌, ◌++◌, length, map, refl, sym, ap, ◌∙◌, subst, arith, length-append}
 use Rattle.std.specs.Prelude.{codes, All, find, bytes_eq}
 use Rattle.std.proofs.lemmas.Bool.{lt-ltb}
 use Rattle.std.proofs.lemmas.List.{length-map, map-append}
@@ -12,7 +12,7 @@ use Rattle.f77_tree.specs.declared.expressions.Access.{Access}
 use Rattle.f77_tree.specs.declared.expressions.Expr.{Expr, Const, Truth as IsTruth, Apply, Read}
 use Rattle.f77_tree.specs.declared.programs.NameInfo.{NameInfo}
 use Rattle.f77_tree.specs.declared.statements.RawExpr.{RawExpr, Call, Call', Apply as RawApply, Apply' as RawApply', Row_of-RawExpr, end_of-RawExpr, more_of-RawExpr, items-the_row-RawExpr, items_hidden-the_row-RawExpr-0}
-use Rattle.f77_tree.specs.declared.statements.RawExpr.TheVariants.{Int, Truth as RawTruth, Named}
+use Rattle.f77_tree.specs.declared.statements.RawExpr.TheVariants.{Int, Truth as RawTruth}
 use Rattle.f77_tree.specs.Declarations.{NamesDiffer, index_of}
 use Rattle.f77_tree.specs.Dialects.{is_of_dialect, HasDialect}
 use Rattle.f77_tree.specs.Kinds.{is_written, IsProper}
@@ -27,6 +27,7 @@ use Rattle.layout_rules.specs.Types.{intrinsics, is_array_in}
 use Rattle.layout_rules.specs.Resolved.{in_dialect, nested, intrinsic_call, resolved_call, resolved, resolved_row, access_of}
 use Rattle.read_back.proofs.ExpressionInduction.{Holds, every_expression}
 use Rattle.read_back.proofs.PrintedKinds.{index-name}
+use Rattle.std.proofs.lemmas.Grind.{elements}
 
 -- ---- rows
 
@@ -57,20 +58,7 @@ module _ (names : List NameInfo) (checked : Bool) where
 
 -- an operator of the dialect is what its plain one is taken for
 dialect_op : (checked : Bool) (op : Op) → is_of_dialect checked op ≡ true → in_dialect checked (plain op) ≡ op
-dialect_op false AddChecked is = absurd cc
-dialect_op false SubChecked is = absurd cc
-dialect_op false MulChecked is = absurd cc
-dialect_op false NegChecked is = absurd cc
-dialect_op false AbsChecked is = absurd cc
-dialect_op false PowChecked is = absurd cc
-dialect_op false op is = refl
-dialect_op true Add is = absurd cc
-dialect_op true Sub is = absurd cc
-dialect_op true Mul is = absurd cc
-dialect_op true Neg is = absurd cc
-dialect_op true Abs is = absurd cc
-dialect_op true Pow is = absurd cc
-dialect_op true op is = refl
+dialect_op h op is = grind arith
 
 -- ---- arguments of MAX and MIN
 
@@ -110,53 +98,33 @@ module _ (names : List NameInfo) (checked : Bool) (differ : NamesDiffer names) (
   -- ---- calls of intrinsic functions
 
   called : (name : List ℕ) (args : List RawExpr) → is_array_in names name ≡ false → resolved names checked (Call name args) ≡ intrinsic_call checked (find (λ f. bytes_eq f.name name) intrinsics) (map (resolved names checked) args)
-  called name args none =
-      let rs = map (resolved names checked) args in
-      resolved-Call names checked name args
-      ∙ ap (λ b. if b then Read (record { name = index_of names name; subs = rs }) else intrinsic_call checked (find (λ f. bytes_eq f.name name) intrinsics) rs) none
+  called name args none = grind (arith, resolved-Call names checked name args)
 
   -- the arguments of one that takes a list
   arguments_resolved : (op : Op) (e : Expr) (es : List RawExpr) (b : RawExpr) (x : Expr) → Nests op e es → resolved names checked b ≡ x → nested op (map (resolved names checked) (es ++ b ∷ [])) ≡ Apply op (e ∷ x ∷ [])
-  arguments_resolved op e es b x nests is =
-      ap (nested op) (map-append (resolved names checked) es (b ∷ []) ∙ ap (λ (y : Expr). map (resolved names checked) es ++ y ∷ []) is) ∙ nests.joined x
+  arguments_resolved op e es b x nests is = grind (arith, map-append (resolved names checked) es (b ∷ []), nests.joined x)
 
   nests_more : (op : Op) (e : Expr) (es : List RawExpr) (b : RawExpr) (x : Expr) → Nests op e es → resolved names checked b ≡ x → Nests op (Apply op (e ∷ x ∷ [])) (es ++ b ∷ [])
-  nests_more op e es b x nests is =
-      let raws = es ++ b ∷ [] in
-      let some = nests.some in
-      let count = length-append es (b ∷ []) in
-      let size = length-map raws (resolved names checked) in
-      record {
-        some = omega (arith, count);
-        joined = λ y. nested-more op (map (resolved names checked) raws) y (omega (arith, some, count, size)) ∙ ap (λ (z : Expr). Apply op (z ∷ y ∷ [])) (arguments_resolved op e es b x nests is);
-      }
+  nests_more op e es b x nests is = grind (arith, length-append es (b ∷ []), length-map, nested-more op, arguments_resolved op e es b x nests is)
 
   max_resolved : (ea eb : Expr) (a b : Form) → in_dialect checked Max ≡ Max → IsResolved ea a → IsResolved eb b → IsResolved (Apply Max (ea ∷ eb ∷ [])) (operator_form Max (a ∷ b ∷ []))
   max_resolved ea eb a b same ra rb =
-      let es = a.in_max ++ b.alone ∷ [] in
-      let is : resolved names checked (Call (codes "MAX") es) ≡ Apply Max (ea ∷ eb ∷ []) = called (codes "MAX") es free.max_of ∙ ap (λ op. nested op (map (resolved names checked) es)) same ∙ arguments_resolved Max ea a.in_max b.alone eb ra.in_max rb.alone in
-      record { alone = is; in_max = nests_more Max ea a.in_max b.alone eb ra.in_max rb.alone; in_min = one Min (Apply Max (ea ∷ eb ∷ [])) (Call (codes "MAX") es) is }
+      grind (arith, called (codes "MAX"), arguments_resolved Max ea a.in_max b.alone eb ra.in_max rb.alone, nests_more Max ea a.in_max b.alone eb ra.in_max rb.alone, one Min (Apply Max (ea ∷ eb ∷ [])))
 
   min_resolved : (ea eb : Expr) (a b : Form) → in_dialect checked Min ≡ Min → IsResolved ea a → IsResolved eb b → IsResolved (Apply Min (ea ∷ eb ∷ [])) (operator_form Min (a ∷ b ∷ []))
   min_resolved ea eb a b same ra rb =
-      let es = a.in_min ++ b.alone ∷ [] in
-      let is : resolved names checked (Call (codes "MIN") es) ≡ Apply Min (ea ∷ eb ∷ []) = called (codes "MIN") es free.min_of ∙ ap (λ op. nested op (map (resolved names checked) es)) same ∙ arguments_resolved Min ea a.in_min b.alone eb ra.in_min rb.alone in
-      record { alone = is; in_max = one Max (Apply Min (ea ∷ eb ∷ [])) (Call (codes "MIN") es) is; in_min = nests_more Min ea a.in_min b.alone eb ra.in_min rb.alone }
+      grind (arith, called (codes "MIN"), arguments_resolved Min ea a.in_min b.alone eb ra.in_min rb.alone, one Max (Apply Min (ea ∷ eb ∷ [])), nests_more Min ea a.in_min b.alone eb ra.in_min rb.alone)
 
   mod_resolved : (ea eb : Expr) (a b : Form) → in_dialect checked Mod ≡ Mod → IsResolved ea a → IsResolved eb b → IsResolved (Apply Mod (ea ∷ eb ∷ [])) (operator_form Mod (a ∷ b ∷ []))
   mod_resolved ea eb a b same ra rb =
-      let es = a.alone ∷ b.alone ∷ [] in
-      plain_resolved (Apply Mod (ea ∷ eb ∷ [])) (Call (codes "MOD") es) (called (codes "MOD") es free.mod_of ∙ ap (λ op. nested op (map (resolved names checked) es)) same ∙ ap (λ (rs : List Expr). Apply Mod rs) (alone_resolved (ea ∷ eb ∷ []) (a ∷ b ∷ []) (ra, (rb, tt))))
+      grind (arith, plain_resolved (Apply Mod (ea ∷ eb ∷ [])), called (codes "MOD"), alone_resolved (ea ∷ eb ∷ []) (a ∷ b ∷ []))
 
   sign_resolved : (ea eb : Expr) (a b : Form) → in_dialect checked Sign ≡ Sign → IsResolved ea a → IsResolved eb b → IsResolved (Apply Sign (ea ∷ eb ∷ [])) (operator_form Sign (a ∷ b ∷ []))
   sign_resolved ea eb a b same ra rb =
-      let es = a.alone ∷ b.alone ∷ [] in
-      plain_resolved (Apply Sign (ea ∷ eb ∷ [])) (Call (codes "SIGN") es) (called (codes "SIGN") es free.sign ∙ ap (λ op. nested op (map (resolved names checked) es)) same ∙ ap (λ (rs : List Expr). Apply Sign rs) (alone_resolved (ea ∷ eb ∷ []) (a ∷ b ∷ []) (ra, (rb, tt))))
+      grind (arith, plain_resolved (Apply Sign (ea ∷ eb ∷ [])), called (codes "SIGN"), alone_resolved (ea ∷ eb ∷ []) (a ∷ b ∷ []))
 
   abs_resolved : (op : Op) (e : Expr) (a : Form) → in_dialect checked Abs ≡ op → IsResolved e a → IsResolved (Apply op (e ∷ [])) (operator_form Abs (a ∷ []))
-  abs_resolved op e a same ra =
-      let es = a.alone ∷ [] in
-      plain_resolved (Apply op (e ∷ [])) (Call (codes "ABS") es) (called (codes "ABS") es free.abs ∙ ap (λ o. nested o (map (resolved names checked) es)) same ∙ ap (λ (rs : List Expr). Apply op rs) (alone_resolved (e ∷ []) (a ∷ []) (ra, tt)))
+  abs_resolved op e a same ra = grind (arith, plain_resolved (Apply op (e ∷ [])), called (codes "ABS"), alone_resolved (e ∷ []) (a ∷ []))
 
   -- ---- operators
 
@@ -177,8 +145,7 @@ module _ (names : List NameInfo) (checked : Bool) (differ : NamesDiffer names) (
   by_two op keeps (e ∷ g ∷ h ∷ es) fs len all = absurd (omega (arith, len))
 
   applied : (raw op : Op) → in_dialect checked raw ≡ op → (es : List Expr) (fs : List Form) → AllResolved es fs → IsResolved (Apply op es) (plain_form (RawApply raw (forms_alone fs)))
-  applied raw op same es fs all =
-      plain_resolved (Apply op es) (RawApply raw (forms_alone fs)) (resolved-Apply names checked raw (forms_alone fs) ∙ ap (λ o. Apply o (map (resolved names checked) (forms_alone fs))) same ∙ ap (λ (rs : List Expr). Apply op rs) (alone_resolved es fs all))
+  applied raw op same es fs all = grind (arith, elements, plain_resolved, resolved-Apply, alone_resolved)
 
   operator_resolved : (op : Op) → is_written op ≡ true → in_dialect checked (plain op) ≡ op → (es : List Expr) (fs : List Form) → length es ≡ arity_of op → AllResolved es fs → IsResolved (Apply op es) (operator_form (plain op) fs)
   operator_resolved Truth written same es fs len all = absurd cc
@@ -219,21 +186,11 @@ module _ (names : List NameInfo) (checked : Bool) (differ : NamesDiffer names) (
   -- ---- names
 
   access_resolved : (k : ℕ) (subs : List Expr) (fs : List Form) → k < length names → length subs ≡ length (dims_of names k) → AllResolved subs fs → IsResolved (Read (record { name = k; subs = subs })) (access_form (name_at names k) fs)
-  access_resolved k [] [] known len all =
-      plain_resolved (Read (record { name = k; subs = [] })) (Named (name_at names k)) (ap (λ j. Read (record { name = j; subs = [] })) (index-name names k differ known))
+  access_resolved k [] [] known len all = grind (arith, plain_resolved, index-name names k differ known)
   access_resolved k [] (f ∷ fs) known len all = absurd all
   access_resolved k (s ∷ subs) [] known len all = absurd all
   access_resolved k (s ∷ subs) (f ∷ fs) known len all =
-      let name = name_at names k in
-      let raws = forms_alone (f ∷ fs) in
-      let rs = map (resolved names checked) raws in
-      let at = index-name names k differ known in
-      let array : is_array_in names name ≡ true = ap (λ j. nat_lt 0 (length (dims_of names j))) at ∙ ap (nat_lt 0) (sym len) ∙ lt-ltb 0 (length (s ∷ subs)) (omega arith) in
-      plain_resolved (Read (record { name = k; subs = s ∷ subs })) (Call name raws)
-      (resolved-Call names checked name raws
-      ∙ ap (λ b. if b then Read (record { name = index_of names name; subs = rs }) else intrinsic_call checked (find (λ g. bytes_eq g.name name) intrinsics) rs) array
-      ∙ ap (λ j. Read (record { name = j; subs = rs })) at
-      ∙ ap (λ (es : List Expr). Read (record { name = k; subs = es })) (alone_resolved (s ∷ subs) (f ∷ fs) all))
+      grind (arith, index-name names k differ known, lt-ltb 0 (length (s ∷ subs)), plain_resolved, resolved-Call names checked, alone_resolved (s ∷ subs) (f ∷ fs) all)
 
   -- ---- all expressions
 
@@ -253,10 +210,7 @@ module _ (names : List NameInfo) (checked : Bool) (differ : NamesDiffer names) (
 
   operation_resolved : (op : Op) (args : List Expr) → All IsPrinted args → IsPrinted (Apply op args)
   operation_resolved op args all proper dialect =
-      let is = IsProper-operation names op args proper in
-      let has = (Apply-dialect checked op args).0 dialect in
-      let operands = all_resolved args all (λ k d lt. (is.operands k d lt).proper) has.1 in
-      subst (λ (f : Form). IsResolved (Apply op args) f) (sym (form-Apply names op args)) (operator_resolved op is.written (dialect_op checked op has.0) args (map (form names) args) is.as_many operands)
+      grind (arith, IsProper-operation names op args proper, Apply-dialect checked op args, all_resolved args all, form-Apply names op args, operator_resolved op, dialect_op checked op)
 
   expressions_resolved : Holds IsPrinted
   expressions_resolved = record {
@@ -278,10 +232,7 @@ module _ (names : List NameInfo) (checked : Bool) (differ : NamesDiffer names) (
   access_again k [] (f ∷ fs) known all = absurd all
   access_again k (s ∷ subs) [] known all = absurd all
   access_again k (s ∷ subs) (f ∷ fs) known all =
-      let raws = forms_alone (f ∷ fs) in
-      access_of-Call names checked (name_at names k) raws
-      ∙ ap (λ j. let made : Access = record { name = j; subs = map (resolved names checked) raws } in made) (index-name names k differ known)
-      ∙ ap (λ (es : List Expr). let made : Access = record { name = k; subs = es } in made) (alone_resolved (s ∷ subs) (f ∷ fs) all)
+      grind (arith, access_of-Call names checked (name_at names k), index-name names k differ known, alone_resolved (s ∷ subs) (f ∷ fs) all)
 
   pub printed_target : (target : Access) → IsProper names (Read target) → All (HasDialect checked) target.subs → access_of names checked (raw_form names (Read target)) ≡ target
   printed_target target proper dialect =

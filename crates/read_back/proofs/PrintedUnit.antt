@@ -1,9 +1,9 @@
 -- A printed program is one unit without subroutines, so it is laid out as it stands.
-use Rattle.std.proofs.Common.{◌≡◌, ℕ, zero, suc, ◌+◌, ◌-◌, ◌<◌, Bool, true, false, not, ◌&&◌, ◌==◌, List, [], ◌∷◌, ◌++◌, length, take, map, Option, Some, None, Ok, All, refl, sym, ap, subst, ◌∙◌, arith, append-nil, append_assoc, if◌then◌else◌}
+use Rattle.std.proofs.Common.{◌≡◌, ℕ, zero, suc, ◌+◌, ◌-◌, ◌<◌, Bool, true, false, not, ◌&&◌, List, [], ◌∷◌, ◌++◌, length, take, map, Option, Some, None, Ok, All, refl, sym, ap, ◌∙◌, arith, append-nil, append_assoc, if◌then◌else◌}
 use Rattle.std.specs.Prelude.{flat_map, slice_get, Result}
 use Rattle.std.specs.List.{list_all, range_with_len}
 use Rattle.std.proofs.Math.Seq.{take-append_seam}
-use Rattle.std.proofs.lemmas.Bool.{and_from, and_parts}
+use Rattle.std.proofs.lemmas.Bool.{and_from}
 use Rattle.std.proofs.lemmas.List.{length-append}
 use Rattle.std.proofs.lemmas.List.Concat.{flat_map-append}
 use Rattle.std.proofs.lemmas.List.Elements.{All-append}
@@ -12,26 +12,22 @@ use Rattle.list_laws.proofs.Ranges.{range_more}
 use Rattle.f77_tree.specs.declared.declarations.CommonPart.{CommonPart}
 use Rattle.f77_tree.specs.declared.declarations.InitPart.{InitPart}
 use Rattle.f77_tree.specs.declared.declarations.Member.{Member}
-use Rattle.f77_tree.specs.declared.expressions.Expr.TheVariants.{Read}
 use Rattle.f77_tree.specs.declared.programs.NameInfo.{NameInfo}
 use Rattle.f77_tree.specs.declared.programs.Program.{Program}
 use Rattle.f77_tree.specs.declared.statements.Labelled.{Labelled}
-use Rattle.f77_tree.specs.Execution.{words_taken}
-use Rattle.f77_tree.specs.Grammar.{reading}
-use Rattle.f77_tree.specs.StatementGrammar.{WrittenStatement, Read_star, is_of_subroutines, statement_of}
+use Rattle.f77_tree.specs.StatementGrammar.{WrittenStatement, is_of_subroutines, statement_of}
 use Rattle.f77_tree.proofs.AllLemmas.{All-nil, All-cons, All-first, All-rest}
 use Rattle.f77_tree.proofs.Subroutines.{guarded_subroutines}
 use Rattle.f77_subs.specs.declared.sub_end.SubEnd.{SubEnd}
 use Rattle.f77_subs.specs.Refusals.{expansion}
-use Rattle.f77_subs.specs.Units.{is_end}
 use Rattle.f77_source.specs.Listed.{stays_in_unit, is_one_unit, listed}
 use Rattle.flat_programs.specs.declared.statements.Flat.{Flat}
-use Rattle.flat_programs.specs.declared.statements.Flat.TheVariants.{Mark, Assignment, Output, LogicalIf, ArithmeticIf, ComputedGoTo, DoLoop, Jump, Finish}
+use Rattle.flat_programs.specs.declared.statements.Flat.TheVariants.{Finish}
 use Rattle.flat_programs.specs.declared.statements.FlatLine.{FlatLine}
-use Rattle.flat_programs.specs.Declarations.{typed_name, block_statement, is_continued, common_at, commons, group_statement, init_statement, declared}
+use Rattle.flat_programs.specs.Declarations.{typed_name, common_at, commons, group_statement, init_statement, declared}
 use Rattle.flat_programs.specs.FlatForm.{IsFlat}
 use Rattle.flat_programs.specs.Lines.{line_count}
-use Rattle.flat_programs.specs.Shown.{shown, written}
+use Rattle.flat_programs.specs.Shown.{shown}
 use Rattle.flat_programs.specs.Text.{label_at}
 use Rattle.flat_programs.specs.Typeset.{typeset}
 use Rattle.read_back.specs.PrintedStatements.{LabelledStatement, declaration, written_in, written_at, written_statements, labelled_from}
@@ -61,13 +57,10 @@ take_labelled : (n line : ℕ) (ss : List LabelledStatement) → take n (labelle
 take_labelled zero line [] = refl
 take_labelled zero line (s ∷ more) = refl
 take_labelled (suc n) line [] = refl
-take_labelled (suc n) line (s ∷ more) =
-    ap (λ (ts : List Labelled). record { label = s.label; line = line; stmt = statement_of s.written } ∷ ts) (take_labelled n (line + line_count (typeset s.written)) more)
+take_labelled (suc n) line (s ∷ more) = grind (arith, take_labelled n (line + line_count (typeset s.written)) more)
 
 but_last : {A : Type 0} (xs : List A) (x : A) → take (length (xs ++ x ∷ []) - 1) (xs ++ x ∷ []) ≡ xs
-but_last xs x =
-    let count : length (xs ++ x ∷ []) - 1 ≡ length xs = omega (arith, length-append xs (x ∷ [])) in
-    ap (λ n. take n (xs ++ x ∷ [])) count ∙ take-append_seam xs (x ∷ [])
+but_last xs x = grind (arith, length-append xs (x ∷ []), take-append_seam xs (x ∷ []))
 
 -- ---- declarations
 
@@ -85,19 +78,11 @@ inits_stay (init ∷ inits) = inits_stay inits
 
 common_stays : (parts : List CommonPart) (k : ℕ) (found : Option CommonPart) → list_all stays_written (common_at parts k found) ≡ true
 common_stays parts k None = refl
-common_stays parts k (Some part) = by (is_continued parts k part)
-  where
-    by : (b : Bool) → list_all stays_written (if b then [] else block_statement parts part.block ∷ []) ≡ true
-    by true = refl
-    by false = refl
+common_stays parts k (Some part) = grind arith
 
 commons_stay : (parts : List CommonPart) (places : List ℕ) → list_all stays_written (flat_map (λ k. common_at parts k (slice_get parts k)) places) ≡ true
 commons_stay parts [] = refl
-commons_stay parts (k ∷ places) =
-    let here = common_at parts k (slice_get parts k) in
-    let rest = flat_map (λ k. common_at parts k (slice_get parts k)) places in
-    list_all-append stays_written here rest
-    ∙ and_from (list_all stays_written here) (list_all stays_written rest) (common_stays parts k (slice_get parts k)) (commons_stay parts places)
+commons_stay parts (k ∷ places) = grind (arith, list_all-append stays_written, and_from, common_stays parts, commons_stay parts places)
 
 both_stay : (xs ys : List WrittenStatement) → list_all stays_written xs ≡ true → list_all stays_written ys ≡ true → list_all stays_written (xs ++ ys) ≡ true
 both_stay xs ys first second = list_all-append stays_written xs ys ∙ and_from (list_all stays_written xs) (list_all stays_written ys) first second
@@ -115,48 +100,25 @@ declared_stay q =
 -- ---- flat statements
 
 shown_stays : (names : List NameInfo) (stmt : Flat) → (stmt ≡ Finish → ⊥) → stays_written (shown names stmt) ≡ true
-shown_stays names Mark some = refl
-shown_stays names (Assignment target value) some = by (words_taken value == 1)
-  where
-    by : (b : Bool) → stays_written (if b then WrittenStatement.read Read_star (written names (Read target) ∷ []) else WrittenStatement.assignment (written names (Read target)) (written names value)) ≡ true
-    by true = refl
-    by false = refl
-shown_stays names (Output items) some = refl
-shown_stays names (LogicalIf condition target) some = ap not (guarded_subroutines (reading (written names condition)) (statement_of (shown names (Jump target))))
-shown_stays names (ArithmeticIf value below at above) some = refl
-shown_stays names (ComputedGoTo value targets) some = refl
-shown_stays names (DoLoop end var first last step) some = refl
-shown_stays names (Jump target) some = refl
-shown_stays names Finish some = absurd (some refl)
+shown_stays names h some = grind (arith, guarded_subroutines)
 
 module _ (names : List NameInfo) (flat : List FlatLine) (form : IsFlat flat) where
   place_stays : (k : ℕ) (found : Option FlatLine) → slice_get flat k ≡ found → suc k < length flat → list_all stays (written_in names flat k found) ≡ true
   place_stays k None is lt = refl
-  place_stays k (Some l) is lt =
-      and_from (stays_written (shown names l.stmt)) true
-      (shown_stays names l.stmt (λ finish. let last = (form.ended k l is).0 finish in absurd (omega (arith, last, lt)))) refl
+  place_stays k (Some l) is lt = grind (arith, and_from (stays_written (shown names l.stmt)) true, shown_stays names l.stmt)
 
   places_stay : (k n : ℕ) → k + n < length flat → list_all stays (flat_map (written_at names flat) (range_with_len k n)) ≡ true
   places_stay k zero lt = refl
-  places_stay k (suc n) lt =
-      let here = written_at names flat k in
-      let rest = flat_map (written_at names flat) (range_with_len (k + 1) n) in
-      list_all-append stays here rest
-      ∙ and_from (list_all stays here) (list_all stays rest) (place_stays k (slice_get flat k) refl (omega (arith, lt))) (places_stay (k + 1) n (omega (arith, lt)))
+  places_stay k (suc n) lt = grind (arith, list_all-append stays, and_from, place_stays k (slice_get flat k), places_stay (k + 1) n)
 
 -- ---- all
 
 no_second : (a b : Bool) → (not a && not b) ≡ true → b ≡ false
-no_second a false h = refl
-no_second true true h = absurd cc
-no_second false true h = absurd cc
+no_second a h h2 = grind arith
 
 plain_from : (ss : List LabelledStatement) → list_all stays ss ≡ true → All IsPlain ss
 plain_from [] stay = All-nil IsPlain
-plain_from (s ∷ ss) stay =
-    let parts = and_parts (stays s) (list_all stays ss) stay in
-    let stmt = statement_of s.written in
-    All-cons IsPlain s ss (no_second (is_end stmt) (is_of_subroutines stmt) parts.0) (plain_from ss parts.1)
+plain_from (s ∷ ss) stay = grind (arith, All-cons IsPlain s ss, no_second, plain_from ss)
 
 plain_labelled : (line : ℕ) (ss : List LabelledStatement) → All IsPlain ss → All (λ t. is_of_subroutines t.stmt ≡ false) (labelled_from line ss)
 plain_labelled line [] all = All-nil (λ (t : Labelled). is_of_subroutines t.stmt ≡ false)
@@ -196,22 +158,11 @@ ends_unit q flat form =
     }
 
 pub printed_unit : (q : Program) (flat : List FlatLine) → IsFlat flat → is_one_unit (statements_read q flat) ≡ true
-printed_unit q flat form =
-    let ends = ends_unit q flat form in
-    let ss = written_statements q flat in
-    let goes_on = λ (t : Labelled). stays_in_unit t.stmt in
-    ap (λ n. list_all goes_on (take (n - 1) (labelled_from 1 ss))) (length_labelled 1 ss)
-    ∙ ap (list_all goes_on) (take_labelled (length ss - 1) 1 ss)
-    ∙ all_labelled 1 (take (length ss - 1) ss)
-    ∙ ap (λ (ws : List LabelledStatement). list_all stays (take (length ws - 1) ws)) ends.is
-    ∙ ap (list_all stays) (but_last ends.before ends.last)
-    ∙ ends.stay
+printed_unit q flat form = grind (arith, ends_unit q flat form, length_labelled 1, take_labelled, all_labelled 1, but_last)
 
 pub printed_plain : (q : Program) (flat : List FlatLine) → IsFlat flat → All (λ s. is_of_subroutines s.stmt ≡ false) (statements_read q flat)
 printed_plain q flat form =
-    let ends = ends_unit q flat form in
-    let all : All IsPlain (ends.before ++ ends.last ∷ []) = All-append IsPlain ends.before (ends.last ∷ []) (plain_from ends.before ends.stay) (All-cons IsPlain ends.last [] ends.plain (All-nil IsPlain)) in
-    plain_labelled 1 (written_statements q flat) (subst (λ (ss : List LabelledStatement). All IsPlain ss) (sym ends.is) all)
+    grind (arith, ends_unit q flat form, All-append IsPlain, plain_from, All-cons IsPlain, All-nil IsPlain, plain_labelled 1 (written_statements q flat))
 
 pub printed_listed : (q : Program) (flat : List FlatLine) (checked : Bool) → IsFlat flat → listed (statements_read q flat) checked ≡ Ok (statements_read q flat)
 printed_listed q flat checked form =

@@ -2,7 +2,7 @@
 use Rattle.std.proofs.Common.{◌≡◌, ◌==◌, ℕ, ◌≤◌, Bool, true, false, cond, List, [], ◌∷◌, ◌++◌, map, refl, sym, ap, ◌∙◌, Some, None, append-nil}
 use Rattle.std.specs.Prelude.{All, decimal}
 use Rattle.std.specs.List.{list_any}
-use Rattle.std.proofs.lemmas.Bool.{eqb-true, or_parts}
+use Rattle.std.proofs.lemmas.Bool.{eqb-true}
 use Rattle.f77_tree.specs.declared.declarations.InitPart.{InitPart}
 use Rattle.f77_tree.specs.declared.declarations.InitValue.{InitValue}
 use Rattle.f77_tree.specs.declared.declarations.Lit.{Lit}
@@ -31,42 +31,21 @@ use Rattle.read_back.proofs.ProgramRead.{is_long_alone, inits_short, is_short}
 use Rattle.read_back.proofs.RepeatBound.{repeats_few}
 use Rattle.read_back.proofs.StatementParts.{HoldsOfRead}
 use Rattle.read_back.proofs.WrittenNumbers.{small_fits}
+use Rattle.std.proofs.lemmas.Grind.{elements}
+use Rattle.std.proofs.Common.{arith}
 
 no_groups : (names : List NameInfo) → HoldsOfRead (λ s. groups_of s ≡ []) names
-no_groups names = record {
-  mark = refl;
-  assigned = λ target value. refl;
-  taken = λ target. refl;
-  output = λ items. refl;
-  guarded = λ condition target. refl;
-  by_sign = λ value below at above. refl;
-  picked = λ value targets. refl;
-  loop = λ end var first last step. refl;
-  jump = λ target. refl;
-  finish = refl;
-}
+no_groups names = grind arith
 
 no_inits : (names : List NameInfo) → HoldsOfRead (λ s. inits_of s ≡ []) names
-no_inits names = record {
-  mark = refl;
-  assigned = λ target value. refl;
-  taken = λ target. refl;
-  output = λ items. refl;
-  guarded = λ condition target. refl;
-  by_sign = λ value below at above. refl;
-  picked = λ value targets. refl;
-  loop = λ end var first last step. refl;
-  jump = λ target. refl;
-  finish = refl;
-}
+no_inits names = grind arith
 
 -- ---- as they were
 
 module _ (names : List NameInfo) (table : All IsNameInfo names) where
   members_again : (ms : List Member) → All (IsMember names) ms → map member_of (map written_member ms) ≡ ms
   members_again [] all = refl
-  members_again (m ∷ ms) all =
-      ap (λ n. n ∷ map member_of (map written_member ms)) (member_again names table m (All-first (IsMember names) m ms all)) ∙ ap (λ ns. m ∷ ns) (members_again ms (All-rest (IsMember names) m ms all))
+  members_again (m ∷ ms) all = grind (arith, elements, member_again, All-first, All-rest, members_again ms (All-rest (IsMember names) m ms all))
 
   groups_again : (groups : List (List Member)) → All (IsGroup names) groups → of_written groups_of (map group_statement groups) ≡ groups
   groups_again [] all = refl
@@ -82,9 +61,7 @@ module _ (names : List NameInfo) (table : All IsNameInfo names) where
   constant_again (Truth b) is = refl
 
   value_again : (v : InitValue) → IsInitValue v → v.times ≤ greatest_constant → value_of (written_value v) ≡ v
-  value_again v is few =
-      ap (λ n. let made : InitValue = record { times = n; value = constant_of (written_constant v.value) } in made) (times_if v.times (v.times == 1) refl few)
-      ∙ ap (λ l. let made : InitValue = record { times = v.times; value = l } in made) (constant_again v.value is.constant)
+  value_again v is few = grind (arith, times_if v.times (v.times == 1), constant_again v.value is.constant)
 
   abbrev IsFew : InitValue → Type 0
   IsFew v = v.times ≤ greatest_constant
@@ -96,16 +73,12 @@ module _ (names : List NameInfo) (table : All IsNameInfo names) where
 
   part_again : (part : InitPart) → IsInitPart names part → is_long_alone (init_statement part) ≡ false → inits_of (statement_of (init_statement part)) ≡ part ∷ []
   part_again part is short =
-      let few = repeats_few names part table is (members_symbolic names table part.items is.members) (is_short (page.unlabelled (init_statement part)) short).length_few in
-      ap (λ ms. let made : InitPart = record { items = ms; values = map value_of (map written_value part.values) } in made ∷ []) (members_again part.items is.members)
-      ∙ ap (λ vs. let made : InitPart = record { items = part.items; values = vs } in made ∷ []) (values_again part.values is.written few)
+      grind (arith, repeats_few names part table is (members_symbolic names table part.items is.members) (is_short (page.unlabelled (init_statement part)) short).length_few, members_symbolic names table part.items is.members, is_short (page.unlabelled (init_statement part)) short, members_again part.items is.members, values_again part.values is.written)
 
   inits_again : (inits : List InitPart) → All (IsInitPart names) inits → list_any is_long_alone (map init_statement inits) ≡ false → of_written inits_of (map init_statement inits) ≡ inits
   inits_again [] all short = refl
   inits_again (part ∷ inits) all short =
-      let parts = or_parts (is_long_alone (init_statement part)) (list_any is_long_alone (map init_statement inits)) short in
-      ap (λ xs. xs ++ of_written inits_of (map init_statement inits)) (part_again part (All-first (IsInitPart names) part inits all) parts.0)
-      ∙ ap (λ xs. part ∷ xs) (inits_again inits (All-rest (IsInitPart names) part inits all) parts.1)
+      grind (arith, is_long_alone (init_statement part), is_long_alone, of_written inits_of (map init_statement inits), part_again part (All-first (IsInitPart names) part inits all), All-first (IsInitPart names) part inits all, inits_again inits (All-rest (IsInitPart names) part inits all), All-rest (IsInitPart names) part inits all)
 
 -- ---- the whole program
 

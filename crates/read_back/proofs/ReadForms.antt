@@ -1,6 +1,6 @@
 -- What a printed flat statement is read as, with the forms of its expressions.
-use Rattle.std.proofs.Common.{◌≡◌, ◌==◌, ℕ, ◌≤◌, Bool, true, false, cond, List, [], ◌∷◌, map, refl, ap, ◌∙◌, Option, Some, None, if◌then◌else◌}
-use Rattle.std.specs.Prelude.{All, decimal}
+use Rattle.std.proofs.Common.{◌≡◌, ◌==◌, ℕ, ◌≤◌, Bool, true, false, cond, List, [], ◌∷◌, map, refl, ap, Option, Some, None, if◌then◌else◌}
+use Rattle.std.specs.Prelude.{All}
 use Rattle.f77_tree.specs.declared.expressions.Access.{Access}
 use Rattle.f77_tree.specs.declared.expressions.Expr.{Expr}
 use Rattle.f77_tree.specs.declared.expressions.Expr.TheVariants.{Read}
@@ -12,11 +12,10 @@ use Rattle.f77_tree.specs.declared.statements.RawItem.{RawItem}
 use Rattle.f77_tree.specs.declared.statements.RawItem.TheVariants.{Value as RawValue, Chars as RawChars}
 use Rattle.f77_tree.specs.declared.statements.Stmt.{Stmt}
 use Rattle.f77_tree.specs.declared.statements.Stmt.TheVariants.{Assign, Print, Take, Continue, GoTo, PickGoTo, SignIf, ThenIf, Do, End}
-use Rattle.f77_tree.specs.declared.declarations.Kind.TheVariants.{Integer}
 use Rattle.f77_tree.specs.Declarations.{IsNameInfo}
 use Rattle.f77_tree.specs.Execution.{words_taken}
-use Rattle.f77_tree.specs.Grammar.{number_of, reading}
-use Rattle.f77_tree.specs.Kinds.{IsProper, IsOfKind, IsAssignment}
+use Rattle.f77_tree.specs.Grammar.{reading}
+use Rattle.f77_tree.specs.Kinds.{IsProper, IsAssignment}
 use Rattle.f77_tree.specs.Name.{is_name}
 use Rattle.f77_tree.specs.StatementGrammar.{WrittenStatement, Read_star, item_of, step_of, statement_of}
 use Rattle.f77_tree.specs.WellFormed.{IsProperItem, IsDo}
@@ -26,9 +25,11 @@ use Rattle.f77_expr.proofs.PrintedLaws.{proper-writes}
 use Rattle.flat_programs.specs.declared.statements.Flat.{Flat}
 use Rattle.flat_programs.specs.declared.statements.Flat.TheVariants.{Mark, Assignment, Output, LogicalIf, ArithmeticIf, ComputedGoTo, DoLoop, Jump, Finish}
 use Rattle.flat_programs.specs.FlatForm.{IsProperFlat, IsNumber, HasNumbers}
-use Rattle.flat_programs.specs.Shown.{written, written_item, is_one, written_step, shown}
+use Rattle.flat_programs.specs.Shown.{written, written_item, is_one, shown}
 use Rattle.read_back.proofs.PrintedLabels.{again, all_again}
 use Rattle.read_back.proofs.ShownForms.{value_proper}
+use Rattle.std.proofs.lemmas.Grind.{elements}
+use Rattle.std.proofs.Common.{arith}
 
 abbrev pub item_form : List NameInfo → Item → RawItem
 item_form names (Value e) = RawValue (raw_form names e)
@@ -62,8 +63,7 @@ module _ (names : List NameInfo) (table : All IsNameInfo names) (count : ℕ) (f
 
   assigned_is : (target : Access) (value : Expr) (takes : Bool) → IsAssignment names target value → (words_taken value == 1) ≡ takes → statement_of (cond takes (WrittenStatement.read Read_star (written names (Read target) ∷ [])) (WrittenStatement.assignment (written names (Read target)) (written names value))) ≡ assigned_form names takes target value
   assigned_is target value true is takes = ap (λ e. Take (e ∷ [])) (form_of (Read target) is.access)
-  assigned_is target value false is takes =
-      ap (λ e. Assign e (reading (written names value))) (form_of (Read target) is.access) ∙ ap (Assign (raw_form names (Read target))) (form_of value (value_proper names target value is takes))
+  assigned_is target value false is takes = search (form_of, value_proper, arith)
 
   item_is : (item : Item) → IsProperItem names item → item_of (written_item names item) ≡ item_form names item
   item_is (Value e) proper = ap RawValue (form_of e proper)
@@ -71,8 +71,7 @@ module _ (names : List NameInfo) (table : All IsNameInfo names) (count : ℕ) (f
 
   items_are : (items : List Item) → All (IsProperItem names) items → map item_of (map (written_item names) items) ≡ map (item_form names) items
   items_are [] all = refl
-  items_are (item ∷ items) all =
-      ap (λ i. i ∷ map item_of (map (written_item names) items)) (item_is item (All-first (IsProperItem names) item items all)) ∙ ap (λ is. item_form names item ∷ is) (items_are items (All-rest (IsProperItem names) item items all))
+  items_are (item ∷ items) all = grind (arith, elements, item_is, All-first, All-rest, items_are items (All-rest (IsProperItem names) item items all))
 
   step_is : (step : Expr) (one : Bool) → IsProper names step → step_of (cond one None (Some (written names step))) ≡ cond one None (Some (raw_form names step))
   step_is step true proper = refl
@@ -80,33 +79,19 @@ module _ (names : List NameInfo) (table : All IsNameInfo names) (count : ℕ) (f
 
   loop_is : (end var : ℕ) (first last step : Expr) → IsDo names var (first ∷ last ∷ step ∷ []) → IsNumber count end → statement_of (shown names (DoLoop end var first last step)) ≡ read_form names (DoLoop end var first last step)
   loop_is end var first last step of number =
-      let integer = IsOfKind names Integer in
-      let a = All-first integer first (last ∷ step ∷ []) of.integers in
-      let later = All-rest integer first (last ∷ step ∷ []) of.integers in
-      let b = All-first integer last (step ∷ []) later in
-      let c = All-first integer step [] (All-rest integer last (step ∷ []) later) in
-      ap (λ n. Do n (name_at names var) (reading (written names first)) (reading (written names last)) (step_of (written_step names step))) (again end count few number)
-      ∙ ap (λ e. Do end (name_at names var) e (reading (written names last)) (step_of (written_step names step))) (form_of first a.proper)
-      ∙ ap (λ e. Do end (name_at names var) (raw_form names first) e (step_of (written_step names step))) (form_of last b.proper)
-      ∙ ap (Do end (name_at names var) (raw_form names first) (raw_form names last)) (step_is step (is_one step) c.proper)
+      grind (arith, All-first, All-rest, again end count few number, form_of first, form_of last, step_is step (is_one step))
 
   signs_are : (value : Expr) (below at above : ℕ) → IsProper names value → All (IsNumber count) (below ∷ at ∷ above ∷ []) → statement_of (shown names (ArithmeticIf value below at above)) ≡ read_form names (ArithmeticIf value below at above)
   signs_are value below at above proper all =
-      let later = All-rest (IsNumber count) below (at ∷ above ∷ []) all in
-      ap (λ e. SignIf e (number_of (decimal below)) (number_of (decimal at)) (number_of (decimal above))) (form_of value proper)
-      ∙ ap (λ n. SignIf (raw_form names value) n (number_of (decimal at)) (number_of (decimal above))) (again below count few (All-first (IsNumber count) below (at ∷ above ∷ []) all))
-      ∙ ap (λ n. SignIf (raw_form names value) below n (number_of (decimal above))) (again at count few (All-first (IsNumber count) at (above ∷ []) later))
-      ∙ ap (SignIf (raw_form names value) below at) (again above count few (All-first (IsNumber count) above [] (All-rest (IsNumber count) at (above ∷ []) later)))
+      grind (arith, All-rest (IsNumber count) below, form_of value proper, again below count few, All-first (IsNumber count) below, again, All-first (IsNumber count), again above count few, All-first (IsNumber count) above, All-rest (IsNumber count))
 
   pub form_is : (stmt : Flat) → IsProperFlat names stmt → HasNumbers count stmt → statement_of (shown names stmt) ≡ read_form names stmt
   form_is Mark proper has = refl
   form_is (Assignment target value) proper has = assigned_is target value (words_taken value == 1) proper refl
   form_is (Output items) proper has = ap Print (items_are items proper)
-  form_is (LogicalIf condition target) proper has =
-      ap (λ e. ThenIf e (GoTo (number_of (decimal target)))) (form_of condition proper.proper) ∙ ap (λ n. ThenIf (raw_form names condition) (GoTo n)) (again target count few (All-first (IsNumber count) target [] has.jumps))
+  form_is (LogicalIf condition target) proper has = grind (arith, elements, form_of, again, All-first)
   form_is (ArithmeticIf value below at above) proper has = signs_are value below at above proper.proper has.jumps
-  form_is (ComputedGoTo value targets) proper has =
-      ap (λ e. PickGoTo (map number_of (map decimal targets)) e) (form_of value proper.0.proper) ∙ ap (λ ns. PickGoTo ns (raw_form names value)) (all_again count few targets has.jumps)
+  form_is (ComputedGoTo value targets) proper has = grind (arith, form_of value proper.0.proper, all_again count few targets has.jumps)
   form_is (DoLoop end var first last step) proper has = loop_is end var first last step proper (All-first (IsNumber count) end [] has.range_end)
   form_is (Jump target) proper has = ap GoTo (again target count few (All-first (IsNumber count) target [] has.jumps))
   form_is Finish proper has = refl

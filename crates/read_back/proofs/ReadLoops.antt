@@ -1,5 +1,5 @@
 -- A printed program is read with as many DOs as it has.
-use Rattle.std.proofs.Common.{◌≡◌, ◌==◌, ℕ, zero, suc, ◌+◌, ◌≤◌, Bool, true, false, cond, List, [], ◌∷◌, ◌++◌, length, map, filter, take, refl, sym, ap, ◌∙◌, arith, Some}
+use Rattle.std.proofs.Common.{◌≡◌, ℕ, zero, suc, ◌+◌, ◌≤◌, Bool, true, false, cond, List, [], ◌∷◌, ◌++◌, length, map, filter, take, refl, sym, ap, ◌∙◌, arith, Some}
 use Rattle.std.specs.Prelude.{All, flat_map, slice_get}
 use Rattle.std.specs.List.{count_by, range_with_len}
 use Rattle.std.proofs.lemmas.List.Concat.{flat_map-append}
@@ -8,19 +8,17 @@ use Rattle.list_laws.proofs.Ranges.{range_more}
 use Rattle.f77_tree.specs.declared.programs.NameInfo.{NameInfo}
 use Rattle.f77_tree.specs.declared.programs.Program.{Program}
 use Rattle.f77_tree.specs.declared.statements.Labelled.{Labelled}
-use Rattle.f77_tree.specs.Execution.{words_taken}
 use Rattle.f77_tree.specs.StatementGrammar.{WrittenStatement, statement_of}
 use Rattle.f77_tree.proofs.AllLemmas.{All-first, All-rest}
 use Rattle.layout_rules.specs.Executables.{is_do}
 use Rattle.flat_programs.specs.declared.statements.Flat.{Flat}
-use Rattle.flat_programs.specs.declared.statements.Flat.TheVariants.{Mark, Assignment, Output, LogicalIf, ArithmeticIf, ComputedGoTo, DoLoop, Jump, Finish}
 use Rattle.flat_programs.specs.declared.statements.FlatLine.{FlatLine}
 use Rattle.flat_programs.specs.Declarations.{declared}
 use Rattle.flat_programs.specs.Lines.{line_count}
 use Rattle.flat_programs.specs.Marks.{is_loop, loop_count}
 use Rattle.flat_programs.specs.Shown.{shown}
 use Rattle.flat_programs.specs.Typeset.{typeset}
-use Rattle.read_back.specs.PrintedStatements.{LabelledStatement, declaration, written_in, written_at, written_statements, labelled_from}
+use Rattle.read_back.specs.PrintedStatements.{LabelledStatement, declaration, written_at, written_statements, labelled_from}
 use Rattle.read_back.specs.SourceStatements.{statements_read}
 use Rattle.read_back.proofs.DeclaredEach.{declared_each}
 use Rattle.read_back.proofs.MarkPlaces.{take_next, take_all}
@@ -63,15 +61,7 @@ no_loop_if true v w a c = a
 no_loop_if false v w a c = c
 
 loop_same : (names : List NameInfo) (stmt : Flat) → is_do (statement_of (shown names stmt)) ≡ is_loop stmt
-loop_same names Mark = refl
-loop_same names (Assignment target value) = no_loop_if (words_taken value == 1) _ _ refl refl
-loop_same names (Output items) = refl
-loop_same names (LogicalIf condition target) = refl
-loop_same names (ArithmeticIf value below at above) = refl
-loop_same names (ComputedGoTo value targets) = refl
-loop_same names (DoLoop end var first last step) = refl
-loop_same names (Jump target) = refl
-loop_same names Finish = refl
+loop_same names h = grind (arith, no_loop_if)
 
 module _ (q : Program) (flat : List FlatLine) where
   abbrev upto : ℕ → List LabelledStatement
@@ -82,18 +72,7 @@ module _ (q : Program) (flat : List FlatLine) where
 
   one_more : (n : ℕ) (l : FlatLine) → slice_get flat n ≡ Some l → count_by begins_loop (upto n) ≡ above n → count_by begins_loop (upto (n + 1)) ≡ above (suc n)
   one_more n l is same =
-      let f = written_at q.names flat in
-      let here : count_by begins_loop (flat_map f (n ∷ [])) ≡ bit (is_loop l.stmt) =
-      ap (λ found. count_by begins_loop (written_in q.names flat n found ++ [])) is ∙ omega arith ∙ ap bit (loop_same q.names l.stmt)
-      in
-      let there : count_by (λ (m : FlatLine). is_loop m.stmt) (l ∷ []) ≡ bit (is_loop l.stmt) = omega arith in
-      ap (λ places. count_by begins_loop (flat_map f places)) (range_more n)
-      ∙ ap (count_by begins_loop) (flat_map-append f (range_with_len 0 n) (n ∷ []))
-      ∙ count-append begins_loop (upto n) (flat_map f (n ∷ []))
-      ∙ ap (λ k. k + count_by begins_loop (flat_map f (n ∷ []))) same
-      ∙ ap (λ k. above n + k) (here ∙ sym there)
-      ∙ sym (count-append (λ (m : FlatLine). is_loop m.stmt) (take n flat) (l ∷ []))
-      ∙ ap (count_by (λ (m : FlatLine). is_loop m.stmt)) (sym (take_next flat n l is))
+      grind (arith, bit (is_loop l.stmt), bit, loop_same q.names l.stmt, range_more n, flat_map-append, count-append begins_loop (upto n), count-append, take_next flat n l is)
 
   loops_upto : (n : ℕ) → n ≤ length flat → count_by begins_loop (upto n) ≡ above n
   loops_upto zero le = refl

@@ -1,5 +1,5 @@
 -- The executables of the statements that a printed program is read as stand at the places of those of its flat statements.
-use Rattle.std.proofs.Common.{◌≡◌, ◌==◌, ℕ, zero, suc, ◌+◌, ◌-◌, ◌<◌, ◌≤◌, Bool, true, false, cond, ◌&&◌, List, [], ◌∷◌, length, filter, take, drop, refl, sym, ap, ◌∙◌, subst, ⊎_elim, arith, Option, Some, None}
+use Rattle.std.proofs.Common.{◌≡◌, ℕ, zero, suc, ◌+◌, ◌-◌, ◌<◌, ◌≤◌, Bool, true, false, cond, ◌&&◌, List, [], ◌∷◌, length, filter, take, drop, refl, sym, ap, ◌∙◌, subst, ⊎_elim, arith, Option, Some, None}
 use Rattle.std.specs.Prelude.{All, sum_by, slice_get, reverse}
 use Rattle.std.specs.List.{range_with_len}
 use Rattle.std.proofs.lemmas.Bool.{cases_Bool, cases_lt, cases_eq, eqb-true, ltb-true, ltb-false, lt-ltb, true≢false}
@@ -14,14 +14,11 @@ use Rattle.f77_tree.specs.declared.statements.Labelled.{Labelled}
 use Rattle.f77_tree.specs.declared.statements.RawExpr.{RawExpr}
 use Rattle.f77_tree.specs.declared.statements.Stmt.{Stmt}
 use Rattle.f77_tree.specs.declared.statements.Stmt.TheVariants.{GoTo, ThenIf}
-use Rattle.f77_tree.specs.Execution.{words_taken}
 use Rattle.f77_tree.specs.StatementGrammar.{WrittenStatement, statement_of}
 use Rattle.f77_tree.proofs.AllLemmas.{All-first, All-get}
 use Rattle.layout_rules.specs.Executables.{own_executables, is_do_to, is_do_in, loops_to, executables_with_ends, first_of, met_after, met}
 use Rattle.layout_rules.specs.Labels.{is_arm, is_executable}
-use Rattle.f77_expr.specs.Printing.{raw_form}
 use Rattle.flat_programs.specs.declared.statements.Flat.{Flat}
-use Rattle.flat_programs.specs.declared.statements.Flat.TheVariants.{Mark, Assignment, Output, LogicalIf, ArithmeticIf, ComputedGoTo, DoLoop, Jump, Finish}
 use Rattle.flat_programs.specs.declared.statements.FlatLine.{FlatLine}
 use Rattle.flat_programs.specs.Declarations.{declared}
 use Rattle.flat_programs.specs.Executables.{width_by, width, width_at, width_in, first_of as first_flat_of}
@@ -51,9 +48,7 @@ drop_whole (x ∷ xs) = drop_whole xs
 -- of the numbers in a row none passes, or one alone does
 none_of : (p : ℕ → Bool) (a m : ℕ) → ((j : ℕ) → a ≤ j → j < a + m → p j ≡ false) → filter p (range_with_len a m) ≡ []
 none_of p a zero none = refl
-none_of p a (suc m) none =
-    ap (λ b. cond b (a ∷ filter p (range_with_len (a + 1) m)) (filter p (range_with_len (a + 1) m))) (none a (omega arith) (omega arith))
-    ∙ none_of p (a + 1) m (λ j low high. none j (omega (arith, low)) (omega (arith, high)))
+none_of p a (suc m) none = grind (arith, none_of p (a + 1) m)
 
 one_of : (p : ℕ → Bool) (a m k : ℕ) → a ≤ k → k < a + m → p k ≡ true → ((j : ℕ) → a ≤ j → j < a + m → p j ≡ true → j ≡ k) → filter p (range_with_len a m) ≡ k ∷ []
 one_of p a zero k low high is only = absurd (omega (arith, low, high))
@@ -90,72 +85,23 @@ module _ (names : List NameInfo) where
   either f false target value x a c = c
 
   pub do_same : (label : ℕ) (stmt : Flat) → is_do_to label (read_form names stmt) ≡ ends_at label stmt
-  do_same label Mark = refl
-  do_same label (Assignment target value) = either (is_do_to label) (words_taken value == 1) target value false refl refl
-  do_same label (Output items) = refl
-  do_same label (LogicalIf condition target) = refl
-  do_same label (ArithmeticIf value below at above) = refl
-  do_same label (ComputedGoTo value targets) = refl
-  do_same label (DoLoop end var first last step) = refl
-  do_same label (Jump target) = refl
-  do_same label Finish = refl
+  do_same label h = grind (arith, either)
 
   own_width : (stmt : Flat) → own_executables (read_form names stmt) ≡ width_by false stmt
-  own_width Mark = refl
-  own_width (Assignment target value) = either own_executables (words_taken value == 1) target value 1 refl refl
-  own_width (Output items) = refl
-  own_width (LogicalIf condition target) = guarded_own (raw_form names condition) target
-  own_width (ArithmeticIf value below at above) = refl
-  own_width (ComputedGoTo value targets) = refl
-  own_width (DoLoop end var first last step) = refl
-  own_width (Jump target) = refl
-  own_width Finish = refl
+  own_width h = grind (arith, either, guarded_own)
 
   pub no_arm : (stmt : Flat) → is_arm (read_form names stmt) ≡ false
-  no_arm Mark = refl
-  no_arm (Assignment target value) = either is_arm (words_taken value == 1) target value false refl refl
-  no_arm (Output items) = refl
-  no_arm (LogicalIf condition target) = refl
-  no_arm (ArithmeticIf value below at above) = refl
-  no_arm (ComputedGoTo value targets) = refl
-  no_arm (DoLoop end var first last step) = refl
-  no_arm (Jump target) = refl
-  no_arm Finish = refl
+  no_arm h = grind (arith, either)
 
   acts : (stmt : Flat) → is_executable (read_form names stmt) ≡ true
-  acts Mark = refl
-  acts (Assignment target value) = either is_executable (words_taken value == 1) target value true refl refl
-  acts (Output items) = refl
-  acts (LogicalIf condition target) = refl
-  acts (ArithmeticIf value below at above) = refl
-  acts (ComputedGoTo value targets) = refl
-  acts (DoLoop end var first last step) = refl
-  acts (Jump target) = refl
-  acts Finish = refl
+  acts h = grind (arith, either)
 
 -- a mark at which a range ends has one executable more
 width_split : (ends : Bool) (stmt : Flat) → width_by ends stmt ≡ width_by false stmt + cond (is_mark stmt && ends) 1 0
-width_split true Mark = refl
-width_split false Mark = refl
-width_split ends (Assignment target value) = refl
-width_split ends (Output items) = refl
-width_split ends (LogicalIf condition target) = refl
-width_split ends (ArithmeticIf value below at above) = refl
-width_split ends (ComputedGoTo value targets) = refl
-width_split ends (DoLoop end var first last step) = refl
-width_split ends (Jump target) = refl
-width_split ends Finish = refl
+width_split ends h = grind arith
 
 range_told : (number : ℕ) (stmt : Flat) → ends_at number stmt ≡ true → range_end stmt ≡ number ∷ []
-range_told number Mark is = absurd cc
-range_told number (Assignment target value) is = absurd cc
-range_told number (Output items) is = absurd cc
-range_told number (LogicalIf condition target) is = absurd cc
-range_told number (ArithmeticIf value below at above) is = absurd cc
-range_told number (ComputedGoTo value targets) is = absurd cc
-range_told number (DoLoop end var first last step) is = ap (λ n. n ∷ []) (eqb-true end number is)
-range_told number (Jump target) is = absurd cc
-range_told number Finish is = absurd cc
+range_told number h is = grind (arith, eqb-true)
 
 module _ (q : Program) (flat : List FlatLine) (given : CanBeText q flat) (free : HasNoPrintedArrays q.names) where
   abbrev stmts : List Labelled
@@ -188,10 +134,7 @@ module _ (q : Program) (flat : List FlatLine) (given : CanBeText q flat) (free :
     own : own_executables (statement_of w) ≡ 0
 
   idle : (k : ℕ) (s : Labelled) → k < front → slice_get stmts k ≡ Some s → IsIdle s
-  idle k s lt there =
-      let is = declared_at q flat k s lt there in
-      let each = All-get IsIdleStatement (declared q) k is.w (declared_each IsIdleStatement q (λ block. record { none = λ label. refl; own = refl }) (λ info. record { none = λ label. refl; own = refl }) (λ group. record { none = λ label. refl; own = refl }) (λ part. record { none = λ label. refl; own = refl })) is.there in
-      record { label = is.label; none = λ label. ap (is_do_to label) is.stmt ∙ each.none label; own = ap own_executables is.stmt ∙ each.own }
+  idle k s lt there = grind (arith, declared_at q flat k s lt there, All-get IsIdleStatement (declared q) k, declared_each IsIdleStatement q)
 
   -- ---- the DO that ends at a mark
 
@@ -203,9 +146,7 @@ module _ (q : Program) (flat : List FlatLine) (given : CanBeText q flat) (free :
     test l = ends_at label l.stmt
 
     here_flat : (place : ℕ) (l : FlatLine) → slice_get flat place ≡ Some l → here (front + place) ≡ test l
-    here_flat place l there =
-        let is = read_at place l there in
-        ap (is_do_in label) is.stands ∙ ap (is_do_to label) is.stmt ∙ do_same q.names label l.stmt
+    here_flat place l there = grind (arith, read_at place l there, do_same q.names label l.stmt)
 
     here_before : (k : ℕ) → k < front → here k ≡ false
     here_before k lt =
@@ -215,9 +156,7 @@ module _ (q : Program) (flat : List FlatLine) (given : CanBeText q flat) (free :
 
     -- a flat statement that the place k has
     at_flat : (k : ℕ) → front ≤ k → k < 0 + length stmts → (place : ℕ) × (k ≡ front + place) × ((l : FlatLine) × (slice_get flat place ≡ Some l))
-    at_flat k low high =
-        let size = statement_count q flat in
-        (k - front, omega (arith, low), get_some flat (k - front) (omega (arith, low, high, size)))
+    at_flat k low high = grind (arith, statement_count q flat, get_some flat (k - front))
 
     span_at : (place : ℕ) (l : FlatLine) → slice_get flat place ≡ Some l → test l ≡ true → IsSpan flat place (place_of flat label)
     span_at place l there is = record { here = l; is = there; end = label; ends = range_told label l.stmt is; place = refl }
@@ -291,13 +230,7 @@ module _ (q : Program) (flat : List FlatLine) (given : CanBeText q flat) (free :
 
   -- a statement has as many executables as the flat one
   width_same : (place : ℕ) (l : FlatLine) (is : IsRead place l) → executables_with_ends stmts is.s ≡ width flat place l.stmt
-  width_same place l is =
-      let number = mark_at flat place in
-      ap (λ label. own_executables is.s.stmt + length (loops_to stmts label)) is.label
-      ∙ ap (λ s. own_executables s + length (loops_to stmts (label_at flat place l))) is.stmt
-      ∙ ap (λ n. n + length (loops_to stmts (label_at flat place l))) (own_width q.names l.stmt)
-      ∙ ap (λ n. width_by false l.stmt + n) (loops_counted place l (is_mark l.stmt) refl)
-      ∙ sym (width_split (is_end flat number) l.stmt)
+  width_same place l is = grind (arith, own_width q.names l.stmt, loops_counted place l (is_mark l.stmt), width_split)
 
   first_next : (k : ℕ) (s : Labelled) → slice_get stmts k ≡ Some s → first_of stmts (suc k) ≡ first_of stmts k + executables_with_ends stmts s
   first_next k s there = ap (sum_by (executables_with_ends stmts)) (take_next stmts k s there) ∙ sum_by_push (executables_with_ends stmts) (take k stmts) s
@@ -342,16 +275,7 @@ module _ (q : Program) (flat : List FlatLine) (given : CanBeText q flat) (free :
       absurd cc)
       (cases_lt place (length flat))
   met_from place (s ∷ rest) (Some l) is left le =
-      let read = read_at place l is in
-      let both : read.s ∷ drop (suc (front + place)) stmts ≡ s ∷ rest = sym (drop_from stmts (front + place) read.s read.stands) ∙ left in
-      let same : read.s ≡ s = cc in
-      let stmt : s.stmt ≡ read_form q.names l.stmt = ap (λ (t : Labelled). t.stmt) (sym same) ∙ read.stmt in
-      let onward = met_after stmts rest (front + place + 1) in
-      ap (λ t. met_after stmts (record { label = s.label; line = s.line; stmt = t } ∷ rest) (front + place)) stmt
-      ∙ met_here (is_arm (read_form q.names l.stmt)) (is_executable (read_form q.names l.stmt)) _ _ onward (no_arm q.names l.stmt) (acts q.names l.stmt)
-    where
-      met_here : (arm acting : Bool) (x y z : ℕ) → arm ≡ false → acting ≡ true → cond arm x (cond acting y z) ≡ y
-      met_here arm acting x y z a b = ap (λ c. cond c x (cond acting y z)) a ∙ ap (λ c. cond c y z) b
+      grind (arith, read_at place l is, drop_from stmts (front + place), read_form q.names, no_arm q.names, acts q.names)
 
   pub met_same : (place : ℕ) → place ≤ length flat → met stmts (front + place) ≡ first_flat_of flat place
   met_same place le = met_from place (drop (front + place) stmts) (slice_get flat place) refl refl le ∙ first_same place le

@@ -1,31 +1,27 @@
 -- The equations of storage that a printed program is read with are those of the program, in some order.
-use Rattle.std.proofs.Common.{◌≡◌, ℕ, ⊎_elim, ℤ, pos, ◌-ℤ◌, Bool, true, false, List, [], ◌∷◌, ◌++◌, map, All, Contains, Option, Some, None, refl, sym, ap, subst, ◌∙◌, arith}
-use Rattle.std.specs.Prelude.{filter, flat_map}
+use Rattle.std.proofs.Common.{◌≡◌, ℕ, ⊎_elim, pos, Bool, true, false, List, [], ◌∷◌, map, All, Contains, Option, Some, None, refl, sym, ap, subst, ◌∙◌, arith}
+use Rattle.std.specs.Prelude.{flat_map}
 use Rattle.std.specs.List.{list_any}
 use mathlib.Core.Path.{fun_ext}
 use Rattle.std.proofs.lemmas.Bool.{cases_Bool}
 use Rattle.std.proofs.lemmas.List.Elements.{Contains-append_left, Contains-append_right, Contains-append_cases}
 use Rattle.list_laws.proofs.Members.{Member-from_Contains, Contains-from_Member, Member-flat_map, Member-flat_mapped, member_of_list_any}
 use Rattle.f77_tree.specs.declared.declarations.CommonPart.{CommonPart}
-use Rattle.f77_tree.specs.declared.declarations.Decl.{Decl}
 use Rattle.f77_tree.specs.declared.declarations.Dim.{Dim}
 use Rattle.f77_tree.specs.declared.declarations.Member.{Member}
 use Rattle.f77_tree.specs.declared.programs.NameInfo.{NameInfo}
 use Rattle.f77_tree.specs.Value.{dims_of, size_of}
-use Rattle.f77_tree.specs.Declarations.{index_of, part_names, member_index, member_offset, CommonOnce, IsMember, IsGroup}
+use Rattle.f77_tree.specs.Declarations.{index_of, part_names, member_offset, CommonOnce, IsMember, IsGroup}
 use Rattle.f77_tree.specs.Places.{Equation, same_block, block_names, neighbours, common_equations, equated, group_equations, equations}
 use Rattle.f77_tree.proofs.AllLemmas.{All-first, All-rest}
 use Rattle.f77_tree.proofs.NameLemmas.{same_block-same}
-use Rattle.layout_rules.specs.Storage.{Standing, size_of as counted, standings, standings_of, standing_equations, size_at, distance_of, member_distance, common_equations as common_solved, equated as equated_solved, group_equations as group_solved, equations as solved}
+use Rattle.layout_rules.specs.Storage.{Standing, size_of as counted, standings, standings_of, standing_equations, size_at, member_distance, common_equations as common_solved, equated as equated_solved, group_equations as group_solved, equations as solved}
 use Rattle.layout_rules.specs.StorageFaults.{are_wrong_dims}
 use Rattle.storage_laws.proofs.DeclaredSizes.{size-exact, distance-exact}
 use Rattle.storage_laws.proofs.DeclaredStandings.{names_standing, beyond, standing_equations-from, standing_equations-to}
 use Rattle.storage_laws.proofs.PlacedBlocks.{block-names}
 use Rattle.storage_laws.proofs.PlacedEquations.{standings-once}
 use Rattle.read_back.proofs.BlockNames.{filter_nothing}
-
-abbrev equation : ℕ → ℕ → ℤ → Equation
-equation from to distance = record { from = from; to = to; distance = distance }
 
 -- Two tables that know the same names with the same dimensions, none of which are wrong; and two listings of COMMON, whose blocks have the
 -- same names in the same order.
@@ -44,8 +40,7 @@ module _ (names table : List NameInfo) (commons parts : List CommonPart) (are : 
 
   neighbours-after : (x : ℕ) (xs : List ℕ) → neighbours names (x ∷ xs) ≡ beyond table (Some x) xs
   neighbours-after x [] = refl
-  neighbours-after x (y ∷ xs) =
-      ap (λ (d : ℤ). equation x y d ∷ neighbours names (y ∷ xs)) (sizes x) ∙ ap (λ (es : List Equation). equation x y (pos (size_at table x)) ∷ es) (neighbours-after y xs)
+  neighbours-after x (y ∷ xs) = grind (arith, sizes x, pos (size_at table x), neighbours-after y xs)
 
   neighbours-all : (xs : List ℕ) → neighbours names xs ≡ beyond table None xs
   neighbours-all [] = refl
@@ -58,10 +53,7 @@ module _ (names table : List NameInfo) (commons parts : List CommonPart) (are : 
   of_block block = neighbours names (block_names names commons block)
 
   names-of_block : (block : Option (List ℕ)) → names_standing block all ≡ block_names names commons block
-  names-of_block block =
-      sym (block-names table block parts)
-      ∙ ap (λ (f : List ℕ → ℕ). flat_map (λ (part : CommonPart). map (λ (decl : Decl). f decl.name) part.decls) (filter (λ (part : CommonPart). same_block part.block block) parts)) (fun_ext are.index)
-      ∙ are.blocks block
+  names-of_block block = grind (arith, block-names table block parts, fun_ext are.index)
 
   of_block-standing : (block : Option (List ℕ)) → of_block block ≡ beyond table None (names_standing block all)
   of_block-standing block = neighbours-all (block_names names commons block) ∙ ap (beyond table None) (sym (names-of_block block))
@@ -98,23 +90,15 @@ module _ (names table : List NameInfo) (commons parts : List CommonPart) (are : 
   -- ---- EQUIVALENCE
 
   distances : (m : Member) → IsMember names m → member_offset names m ≡ member_distance table m
-  distances m is =
-      let k = member_index names m in
-      let same : dims_of table (member_index table m) ≡ dims_of names k = ap (dims_of table) (are.index m.name) ∙ are.dims k in
-      distance-exact (dims_of names k) m.subs (are.right k) is.element ∙ ap (λ (dims : List Dim). pos (distance_of dims m.subs)) (sym same)
+  distances m is = grind (arith, distance-exact, pos)
 
   equated-same : (a b : Member) → IsMember names a → IsMember names b → equated names a b ≡ equated_solved table a b
-  equated-same a b is_a is_b =
-      ap (λ (k : ℕ). equation k (member_index names b) (member_offset names a -ℤ member_offset names b)) (sym (are.index a.name))
-      ∙ ap (λ (k : ℕ). equation (member_index table a) k (member_offset names a -ℤ member_offset names b)) (sym (are.index b.name))
-      ∙ ap (λ (z : ℤ). equation (member_index table a) (member_index table b) (z -ℤ member_offset names b)) (distances a is_a)
-      ∙ ap (λ (z : ℤ). equation (member_index table a) (member_index table b) (member_distance table a -ℤ z)) (distances b is_b)
+  equated-same a b is_a is_b = grind (arith, distances a is_a, distances b is_b)
 
   rest-same : (first : Member) (rest : List Member) → IsMember names first → All (IsMember names) rest → map (equated names first) rest ≡ map (equated_solved table first) rest
   rest-same first [] is members = refl
   rest-same first (m ∷ rest) is members =
-      ap (λ (e : Equation). e ∷ map (equated names first) rest) (equated-same first m is (All-first (IsMember names) m rest members))
-      ∙ ap (λ (es : List Equation). equated_solved table first m ∷ es) (rest-same first rest is (All-rest (IsMember names) m rest members))
+      grind (arith, equated-same first m is (All-first (IsMember names) m rest members), All-first (IsMember names) m rest members, rest-same first rest is (All-rest (IsMember names) m rest members), All-rest (IsMember names) m rest members)
 
   group-same : (group : List Member) → All (IsMember names) group → group_equations names group ≡ group_solved table group
   group-same [] members = refl
@@ -123,28 +107,17 @@ module _ (names table : List NameInfo) (commons parts : List CommonPart) (are : 
   groups-same : (groups : List (List Member)) → All (IsGroup names) groups → flat_map (group_equations names) groups ≡ flat_map (group_solved table) groups
   groups-same [] each = refl
   groups-same (group ∷ groups) each =
-      ap (λ (es : List Equation). es ++ flat_map (group_equations names) groups) (group-same group (All-first (IsGroup names) group groups each).members)
-      ∙ ap (λ (es : List Equation). group_solved table group ++ es) (groups-same groups (All-rest (IsGroup names) group groups each))
+      grind (arith, group-same group (All-first (IsGroup names) group groups each).members, All-first (IsGroup names) group groups each, groups-same groups (All-rest (IsGroup names) group groups each), All-rest (IsGroup names) group groups each)
 
   -- ---- all of them
 
   pub equations-to : (groups : List (List Member)) → All (IsGroup names) groups → (e : Equation) → Contains (solved table parts groups) e → Contains (equations names commons groups) e
   equations-to groups each e there =
-      let front = common_equations names commons in
-      let back = flat_map (group_equations names) groups in
-      ⊎_elim
-      (λ common. Contains-append_left front back e (common-to e common))
-      (λ group. Contains-append_right front back e (subst (λ (es : List Equation). Contains es e) (sym (groups-same groups each)) group))
-      (Contains-append_cases (common_solved table parts) (flat_map (group_solved table) groups) e there)
+      grind (arith, Contains-append_left, common-to e, Contains-append_right, groups-same groups each, Contains-append_cases (common_solved table parts) (flat_map (group_solved table) groups) e there)
 
   pub equations-from : (groups : List (List Member)) → All (IsGroup names) groups → (e : Equation) → Contains (equations names commons groups) e → Contains (solved table parts groups) e
   equations-from groups each e there =
-      let front = common_solved table parts in
-      let back = flat_map (group_solved table) groups in
-      ⊎_elim
-      (λ common. Contains-append_left front back e (common-from e common))
-      (λ group. Contains-append_right front back e (subst (λ (es : List Equation). Contains es e) (groups-same groups each) group))
-      (Contains-append_cases (common_equations names commons) (flat_map (group_equations names) groups) e there)
+      grind (arith, Contains-append_left, common-from e, Contains-append_right, groups-same groups each, Contains-append_cases (common_equations names commons) (flat_map (group_equations names) groups) e there)
 
   -- the names of a block, as they stand in COMMON
   pub standing-names : (block : Option (List ℕ)) → names_standing block (standings table parts) ≡ block_names names commons block

@@ -1,5 +1,5 @@
 -- Places that meet equations: a name lies as far after the lowest name of its storage as its place after that one's.
-use Rattle.std.proofs.Common.{◌≡◌, ℕ, zero, suc, ◌+◌, ◌<◌, ⊎_elim, ℤ, pos, ◌+ℤ◌, ◌-ℤ◌, ◌≤ℤ◌, Bool, true, false, cond, ◌==◌, nat_lt, List, [], ◌∷◌, length, map, Option, Some, None, Contains, refl, sym, ap, subst, arith}
+use Rattle.std.proofs.Common.{◌≡◌, ℕ, zero, suc, ◌+◌, ◌<◌, ⊎_elim, ℤ, pos, ◌+ℤ◌, ◌-ℤ◌, ◌≤ℤ◌, Bool, true, false, cond, ◌==◌, nat_lt, List, [], ◌∷◌, length, map, Option, Some, None, Contains, refl, ap, subst, arith}
 use Rattle.std.specs.Prelude.{fold, slice_get}
 use Rattle.std.specs.Option.{option_map}
 use Rattle.std.specs.List.{range_with_len}
@@ -63,9 +63,7 @@ module _ (P : ℕ → ℤ) where
 
   at_linked : (spots : List Spot) (e : Equation) → AreAt spots → Holds e → AreAt (linked spots e)
   at_linked spots e are holds k =
-      let f = united (spot_at spots e.from) (spot_at spots e.to) e.distance in
-      let keeps : (j : ℕ) (s : Spot) → IsAt j s → IsAt j (f s) = at_united (spot_at spots e.from) (spot_at spots e.to) e.from e.to e.distance (are e.from) (are e.to) holds in
-      subst (λ (o : Option Spot). IsAt k (spot_or_alone k o)) (sym (slice_get-map f spots k)) (at_mapped f keeps k (slice_get spots k) (are k))
+      grind (arith, at_united (spot_at spots e.from) (spot_at spots e.to) e.from e.to e.distance (are e.from) (are e.to) holds, slice_get-map, at_mapped)
 
   at_all : (all : List Equation) (spots : List Spot) → AreAt spots → ((e : Equation) → Contains all e → Holds e) → AreAt (fold linked spots all)
   at_all [] spots are holds = are
@@ -85,9 +83,7 @@ module _ (P : ℕ → ℤ) where
 
 stay : (spots : List Spot) (all : List Equation) (x y : ℕ) → x < length spots → y < length spots → storage_at spots x ≡ storage_at spots y → storage_at (fold linked spots all) x ≡ storage_at (fold linked spots all) y
 stay spots [] x y i j same = same
-stay spots (e ∷ all) x y i j same =
-    let long = length-after spots e in
-    stay (linked spots e) all x y (omega (arith, long, i)) (omega (arith, long, j)) (together-after spots e x y i j same)
+stay spots (e ∷ all) x y i j same = grind (arith, length-after spots e, stay (linked spots e) all x y, together-after spots e x y i j same)
 
 abbrev AreWithin : List Spot → List Equation → Type 0
 AreWithin spots all = (e : Equation) → Contains all e → (e.from < length spots) × (e.to < length spots)
@@ -123,6 +119,4 @@ kept P count all are holds e there =
 
 -- names of one storage stand as their places do
 pub in_order : (P : ℕ → ℤ) (spots : List Spot) → AreAt P spots → (x y : ℕ) → storage_at spots x ≡ storage_at spots y → P x ≤ℤ P y → distance_at spots x ≤ℤ distance_at spots y
-in_order P spots at x y same le =
-    let begins : P (storage_at spots x) ≡ P (storage_at spots y) = ap P same in
-    omega (arith, ints, at x, at y, begins, le)
+in_order P spots at x y same le = grind (arith, ints)

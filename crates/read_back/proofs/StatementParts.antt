@@ -1,6 +1,6 @@
 -- What is gathered from the statements of a printed program: first from its declarations, the names first, and then from its flat
 -- statements.
-use Rattle.std.proofs.Common.{◌≡◌, ◌==◌, ℕ, ◌+◌, Bool, true, false, cond, List, [], ◌∷◌, ◌++◌, length, map, refl, sym, ap, ◌∙◌, subst, append_assoc, Option, Some, None}
+use Rattle.std.proofs.Common.{◌≡◌, ℕ, ◌+◌, Bool, true, false, cond, List, [], ◌∷◌, ◌++◌, length, map, refl, sym, ap, ◌∙◌, subst, append_assoc, Option, Some, None}
 use Rattle.std.specs.Prelude.{All, flat_map, slice_get}
 use Rattle.std.specs.List.{range_with_len}
 use Rattle.std.proofs.lemmas.List.{map-append}
@@ -14,7 +14,6 @@ use Rattle.f77_tree.specs.declared.programs.NameInfo.{NameInfo}
 use Rattle.f77_tree.specs.declared.programs.Program.{Program}
 use Rattle.f77_tree.specs.declared.statements.Labelled.{Labelled}
 use Rattle.f77_tree.specs.declared.statements.Stmt.{Stmt}
-use Rattle.f77_tree.specs.Execution.{words_taken}
 use Rattle.f77_tree.specs.StatementGrammar.{WrittenStatement, Print_star, Read_star, statement_of}
 use Rattle.f77_tree.proofs.AllLemmas.{All-nil, All-first, All-rest}
 use Rattle.layout_rules.specs.Faults.{first_answer, answer_or}
@@ -27,6 +26,8 @@ use Rattle.flat_programs.specs.Shown.{written, written_item, shown}
 use Rattle.flat_programs.specs.Typeset.{typeset}
 use Rattle.read_back.specs.PrintedStatements.{LabelledStatement, declaration, written_in, written_at, written_statements, labelled_from}
 use Rattle.read_back.specs.SourceStatements.{statements_read}
+use Rattle.std.proofs.lemmas.Grind.{elements}
+use Rattle.std.proofs.Common.{arith}
 
 -- ---- without lines
 
@@ -47,16 +48,7 @@ abbrev pub after_names : Program → List FlatLine → List LabelledStatement
 after_names q flat = map declaration (commons q.commons) ++ (map declaration (map group_statement q.groups) ++ (map declaration (map init_statement q.inits) ++ flat_map (written_at q.names flat) (range_with_len 0 (length flat))))
 
 names_first : (q : Program) (flat : List FlatLine) → written_statements q flat ≡ map declaration (map typed_name q.names) ++ after_names q flat
-names_first q flat =
-    let a = map typed_name q.names in
-    let b = commons q.commons in
-    let c = map group_statement q.groups in
-    let d = map init_statement q.inits in
-    let rest = flat_map (written_at q.names flat) (range_with_len 0 (length flat)) in
-    ap (λ ss. ss ++ rest) (map-append declaration (a ++ b ++ c) d ∙ ap (λ ss. ss ++ map declaration d) (map-append declaration (a ++ b) c ∙ ap (λ ss. ss ++ map declaration c) (map-append declaration a b)))
-    ∙ append_assoc (map declaration a ++ map declaration b ++ map declaration c) (map declaration d) rest
-    ∙ append_assoc (map declaration a ++ map declaration b) (map declaration c) (map declaration d ++ rest)
-    ∙ append_assoc (map declaration a) (map declaration b) (map declaration c ++ (map declaration d ++ rest))
+names_first q flat = grind (arith, map-append declaration, append_assoc)
 
 pub parts_of_all : {X : Type 0} (f : Stmt → List X) (q : Program) (flat : List FlatLine) → flat_map (λ (s : Labelled). f s.stmt) (statements_read q flat) ≡ flat_map (λ s. f (read_stmt s)) (map declaration (map typed_name q.names) ++ after_names q flat)
 parts_of_all f q flat = parts-labelled f 1 (written_statements q flat) ∙ ap (flat_map (λ s. f (read_stmt s))) (names_first q flat)
@@ -85,8 +77,7 @@ either P false v w a c = c
 
 pub holds_of_read : (P : Stmt → Type 0) (names : List NameInfo) → HoldsOfRead P names → (stmt : Flat) → P (statement_of (shown names stmt))
 holds_of_read P names h Mark = h.mark
-holds_of_read P names h (Assignment target value) =
-    either P (words_taken value == 1) (WrittenStatement.read Read_star (written names (Read target) ∷ [])) (WrittenStatement.assignment (written names (Read target)) (written names value)) (h.taken target) (h.assigned target value)
+holds_of_read P names h (Assignment target value) = grind (arith, elements, either, h.taken target, h.assigned target value)
 holds_of_read P names h (Output items) = h.output items
 holds_of_read P names h (LogicalIf condition target) = h.guarded condition target
 holds_of_read P names h (ArithmeticIf value below at above) = h.by_sign value below at above
@@ -125,10 +116,4 @@ module _ {X : Type 0} (P : X → Type 0) (f : Stmt → List X) where
 
   -- all that comes after the names
   pub after_each : (q : Program) (flat : List FlatLine) → All (λ w. All P (f (statement_of w))) (commons q.commons) → All (λ group. All P (f (statement_of (group_statement group)))) q.groups → All (λ part. All P (f (statement_of (init_statement part)))) q.inits → ((place : ℕ) (l : FlatLine) → slice_get flat place ≡ Some l → All P (f (statement_of (shown q.names l.stmt)))) → All P (flat_map (λ s. f (read_stmt s)) (after_names q flat))
-  after_each q flat blocks groups inits each =
-      let c = map declaration (map group_statement q.groups) in
-      let d = map declaration (map init_statement q.inits) in
-      let rest = flat_map (written_at q.names flat) (range_with_len 0 (length flat)) in
-      both (map declaration (commons q.commons)) (c ++ (d ++ rest)) (each_declared (commons q.commons) blocks)
-      (both c (d ++ rest) (each_mapped group_statement q.groups groups)
-      (both d rest (each_mapped init_statement q.inits inits) (each_from q.names flat each (range_with_len 0 (length flat)))))
+  after_each q flat blocks groups inits each = search (both, each_declared, each_mapped, each_from, arith)

@@ -1,10 +1,9 @@
 -- A text that is read as a program can be refused for its size alone.
-use Rattle.std.proofs.Common.{◌≡◌, ℕ, Bool, true, false, cond, nat_lt, List, [], ◌∷◌, ◌++◌, Option, Some, None, Ok, Err, inl, inr, refl, sym, ap, ◌∙◌, subst}
+use Rattle.std.proofs.Common.{◌≡◌, ℕ, Bool, true, false, cond, nat_lt, List, [], ◌∷◌, ◌++◌, Option, Some, None, Ok, Err, inl, inr, refl}
 use Rattle.std.specs.Prelude.{Result}
 use Rattle.alias_classes.specs.Number.{number_of_classes}
 use Rattle.f77_tree.specs.declared.programs.Program.{Program}
 use Rattle.f77_tree.specs.declared.statements.Labelled.{Labelled}
-use Rattle.layout_rules.specs.declared.layout_end.LayoutEnd.{LayoutEnd}
 use Rattle.layout_rules.specs.declared.layout_end.LayoutEnd.TheVariants.{TooManyOps}
 use Rattle.layout_rules.specs.Counts.{is_too_great}
 use Rattle.layout_rules.specs.Faults.{first_answer, answer_or}
@@ -12,17 +11,14 @@ use Rattle.layout_rules.specs.LowestLines.{lowest_line}
 use Rattle.layout_rules.specs.Layout.{names_of, at_line, refusals_of_form, refusal, HasForm, program, layout, unless_refused, last_line}
 use Rattle.f77_source.specs.declared.source_end.Code.TheVariants as code
 use Rattle.f77_source.specs.declared.source_end.Refusal.{Refusal}
-use Rattle.f77_source.specs.Reading.{Reads, told, most_classes, program_laid, program_from, program_of as read_of, program_in, reading}
+use Rattle.f77_source.specs.Reading.{Reads, told, most_classes, program_laid, reading}
 use Rattle.read_back.specs.ReadAgain.{IsUnlessTooGreat}
+use Rattle.std.proofs.Common.{arith}
 
 -- the answer of the later ones, where the first ones give none
 later_answer : {A B : Type 0} (f : A → Option B) (xs ys : List A) → first_answer f xs ≡ None → first_answer f (xs ++ ys) ≡ first_answer f ys
 later_answer f [] ys none = refl
-later_answer {A} {B} f (x ∷ xs) ys none = by (f x) none (λ rest. later_answer f xs ys rest)
-  where
-    by : (found : Option B) → answer_or found (first_answer f xs) ≡ None → (first_answer f xs ≡ None → first_answer f (xs ++ ys) ≡ first_answer f ys) → answer_or found (first_answer f (xs ++ ys)) ≡ first_answer f ys
-    by None rest later = later rest
-    by (Some b) rest later = absurd cc
+later_answer {A} {B} f (x ∷ xs) ys none = grind (arith, later_answer f xs ys)
 
 module _ (stmts : List Labelled) (checked : Bool) (p : Program) (form : HasForm stmts) (is : program stmts checked ≡ p) where
   abbrev ops : Option ℕ
@@ -43,10 +39,7 @@ module _ (stmts : List Labelled) (checked : Bool) (p : Program) (form : HasForm 
   operations_by None = classes_by (nat_lt most_classes (number_of_classes (program stmts checked)))
 
   laid_unless_too_great : IsUnlessTooGreat p (program_laid (last_line stmts) (layout stmts checked))
-  laid_unless_too_great =
-      subst (λ (found : Option LayoutEnd). IsUnlessTooGreat p (program_laid (last_line stmts) (unless_refused found (program stmts checked)))) (sym only_operations) (operations_by ops)
+  laid_unless_too_great = grind (arith, only_operations, operations_by ops)
 
 pub read_unless_too_great : (bytes : List ℕ) (checked : Bool) (p : Program) → Reads bytes checked p → IsUnlessTooGreat p (reading bytes checked)
-read_unless_too_great bytes checked p reads =
-    let told_as : reading bytes checked ≡ program_laid (last_line reads.list) (layout reads.list checked) = ap (program_in checked) reads.lines ∙ ap (read_of checked) reads.statements ∙ ap (program_from checked) reads.units in
-    subst (IsUnlessTooGreat p) (sym told_as) (laid_unless_too_great reads.list checked p reads.form reads.is)
+read_unless_too_great bytes checked p reads = grind (arith, laid_unless_too_great reads.list checked p reads.form reads.is)

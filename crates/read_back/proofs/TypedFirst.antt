@@ -26,8 +26,7 @@ module _ (q : Program) (flat : List FlatLine) where
 
   apart : declared q ≡ map typed_name q.names ++ later_ones
   apart =
-      append_assoc (map typed_name q.names ++ commons q.commons) (map group_statement q.groups) (map init_statement q.inits)
-      ∙ append_assoc (map typed_name q.names) (commons q.commons) (map group_statement q.groups ++ map init_statement q.inits)
+      grind (arith, append_assoc (map typed_name q.names ++ commons q.commons) (map group_statement q.groups) (map init_statement q.inits), append_assoc (map typed_name q.names) (commons q.commons) (map group_statement q.groups ++ map init_statement q.inits))
 
   module _ (P : Stmt → Type 0) (later : All (λ w. P (statement_of w)) later_ones) (others : (place : ℕ) (s : Labelled) → IsFlatAt q flat place s → P s.stmt) where
     declared_or : (k : ℕ) (s : Labelled) → IsDeclaredAt q k s → P s.stmt ⊎ TypesName q k s

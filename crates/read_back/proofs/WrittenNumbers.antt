@@ -1,5 +1,5 @@
 -- Numbers of declarations as they are written: digits whose number is no more than the greatest constant.
-use Rattle.std.proofs.Common.{◌≡◌, ℕ, ◌^◌, ◌<◌, ◌≤◌, ℤ, pos, negsuc, nat_abs, ◌≤ℤ◌, Bool, true, false, List, [], ◌∷◌, ◌++◌, ◌||◌, nat_lt, map, refl, ap, ◌∙◌, arith, Some, None}
+use Rattle.std.proofs.Common.{◌≡◌, ℕ, ◌^◌, ◌<◌, ◌≤◌, ℤ, pos, nat_abs, ◌≤ℤ◌, Bool, true, false, List, [], ◌∷◌, ◌++◌, ◌||◌, nat_lt, map, refl, ap, ◌∙◌, arith, Some, None}
 use Rattle.std.specs.Prelude.{flat_map, decimal, All, if◌then◌else◌}
 use Rattle.std.specs.Ordering.{int_eq}
 use Rattle.std.specs.List.{list_all}
@@ -11,7 +11,7 @@ use Rattle.f77_tree.specs.Grammar.{number_of, greatest_constant}
 use Rattle.f77_tree.specs.StatementGrammar.{SignedDigits, is_signed, is_great, are_great, dim_numbers, numbers_of}
 use Rattle.f77_tree.proofs.AllLemmas.{All-nil, All-cons, All-first, All-rest}
 use Rattle.f77_expr.proofs.PrintedNumbers.{is_number-decimal, number_of-decimal}
-use Rattle.flat_programs.specs.Declarations.{signed, written_low, written_dim}
+use Rattle.flat_programs.specs.Declarations.{signed, written_dim}
 
 -- numbers of the grammar that are no greater than the greatest constant
 abbrev pub AreFine : List SignedDigits → Type 0
@@ -57,8 +57,7 @@ signed_small z h = digits_fine (nat_abs z) h
 pub signed_fine : (zs : List ℤ) → All CanBeWritten zs → AreFine (map signed zs)
 signed_fine [] h = tt
 signed_fine (z ∷ zs) h =
-    let here = All-first CanBeWritten z zs h in
-    (signed_signed z here, signed_small z here, signed_fine zs (All-rest CanBeWritten z zs h))
+    grind (arith, All-first CanBeWritten z zs h, signed_signed z, signed_small z, signed_fine zs (All-rest CanBeWritten z zs h), All-rest CanBeWritten z zs h)
 
 -- ---- bounds
 
@@ -69,24 +68,16 @@ low_fine z false h = (signed_signed z h, signed_small z h, tt)
 pub dims_fine : (dims : List Dim) → All IsDim dims → AreFine (flat_map dim_numbers (map written_dim dims))
 dims_fine [] h = tt
 dims_fine (d ∷ dims) h =
-    let here = All-first IsDim d dims h in
-    let low = numbers_of (written_low d.lo) in
-    let high = signed d.hi ∷ [] in
-    fine-append (low ++ high) (flat_map dim_numbers (map written_dim dims)) (fine-append low high (low_fine d.lo (int_eq d.lo (pos 1)) here.lower) (signed_signed d.hi here.upper, signed_small d.hi here.upper, tt)) (dims_fine dims (All-rest IsDim d dims h))
+    grind (arith, All-first IsDim d dims h, fine-append, low_fine d.lo (int_eq d.lo (pos 1)), pos 1, signed_signed d.hi, signed_small d.hi, dims_fine dims (All-rest IsDim d dims h), All-rest IsDim d dims h)
 
 -- ---- subscripts
 
 between : (lo z hi : ℤ) (most : ℕ) → nat_abs lo ≤ most → nat_abs hi ≤ most → lo ≤ℤ z → z ≤ℤ hi → nat_abs z ≤ most
-between lo (pos n) (pos m) most a b below above = omega (arith, ints)
-between lo (pos n) (negsuc m) most a b below above = absurd (omega (arith, ints))
-between (pos m) (negsuc n) hi most a b below above = absurd (omega (arith, ints))
-between (negsuc m) (negsuc n) hi most a b below above = omega (arith, ints)
+between lo h hi most a b below above = grind (arith, ints)
 
 pub within_written : (dims : List Dim) (subs : List ℤ) → All IsDim dims → AreWithin dims subs → All CanBeWritten subs
 within_written [] [] are within = All-nil CanBeWritten
 within_written (dim ∷ dims) (sub ∷ subs) are within =
-    let here = All-first IsDim dim dims are in
-    let first : CanBeWritten sub = between dim.lo sub dim.hi greatest_constant here.lower here.upper within.0 within.1 in
-    All-cons CanBeWritten sub subs first (within_written dims subs (All-rest IsDim dim dims are) within.2)
+    grind (arith, All-first IsDim dim dims are, between dim.lo sub dim.hi greatest_constant, All-cons CanBeWritten sub subs, within_written dims subs (All-rest IsDim dim dims are) within.2, All-rest IsDim dim dims are)
 within_written [] (sub ∷ subs) are within = absurd within
 within_written (dim ∷ dims) [] are within = absurd within
