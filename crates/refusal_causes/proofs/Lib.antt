@@ -1,0 +1,2 @@
+pub mod UnitParts
+pub mod Names

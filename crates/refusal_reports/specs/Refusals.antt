@@ -1,0 +1,65 @@
+-- The report of a refusal.
+use Rattle.std.specs.Prelude.{◌≡◌, ◌⊎◌, ℕ, List, Option, None}
+use Rattle.declared_names.specs.Described.{described}
+use Rattle.fixed_form.specs.Reading.{reading}
+use Rattle.f77_source.specs.declared.source_end.Code.{Code}
+use Rattle.f77_source.specs.declared.source_end.Code.TheVariants.{BadByte, BadLabelField, NoForm, BadCall, BadBlock, RealName, TypeWrong, SubTwice, NoSub, Recursion, LabelTwice, LabelMissing}
+use Rattle.f77_tree.specs.declared.statements.Labelled.{Labelled}
+use Rattle.f77_source.specs.declared.source_end.Refusal.{Refusal}
+use Rattle.refusal_causes.specs.Declarations.{IsDeclared, IsOfBlock, IsOfCall, IsOfName}
+use Rattle.refusal_causes.specs.Labels.{IsOfLabels}
+use Rattle.refusal_causes.specs.Units.{unit_with}
+use Rattle.refusal_causes.specs.declared.cause.Cause.{Cause}
+use Rattle.refusal_causes.specs.declared.cause.Cause.TheVariants.{Rule}
+use Rattle.refusal_reports.specs.Advices.{advice_by_code}
+use Rattle.refusal_reports.specs.Statements.{parsed, raws_of}
+use Rattle.refusal_reports.specs.declared.report.Place.{Place}
+use Rattle.refusal_reports.specs.Columns.{column_of_byte, column_of_label}
+use Rattle.refusal_reports.specs.Lines.{caret, line_of, shown}
+use Rattle.refusal_reports.specs.Report.{lines_text, place_text, told_text}
+
+-- the column that a refusal of a line is for
+abbrev pub column_at : Code → (line : List ℕ) → Option ℕ
+column_at BadByte line = column_of_byte line
+column_at BadLabelField line = column_of_label line
+column_at _ line = None
+
+-- a place, what is wrong there, the line with its caret, and what to write instead
+abbrev pub written : Place → (line : List ℕ) → Cause → (code_name : List ℕ) → List ℕ
+written place line cause code_name = told_text (place_text place) cause code_name (lines_text (shown line) (caret line place.column))
+
+-- what is told of a refusal by its code; where the statement has no form, by tables of statements and signs
+abbrev pub IsByCode : (line : List ℕ) → List Labelled → (number : ℕ) → (wrong : List ℕ) → Code → Type 0
+IsByCode line stmts number wrong NoForm = Unit {0}
+IsByCode line stmts number wrong code = wrong ≡ advice_by_code line stmts number code
+
+abbrev pub IsOfCode : (line : List ℕ) → List Labelled → Refusal → Cause → Type 0
+IsOfCode line stmts refusal (Rule advice) = IsByCode line stmts refusal.line advice.wrong.now refusal.code
+IsOfCode line stmts refusal _ = ⊥
+
+-- what is told with the names of the text is so
+abbrev pub IsFound : List Labelled → (number : ℕ) → Code → Cause → Type 0
+IsFound stmts number BadCall cause = IsOfCall cause
+IsFound stmts number BadBlock cause = IsOfBlock cause
+IsFound stmts number RealName cause = IsDeclared (described (unit_with number stmts)) cause
+IsFound stmts number TypeWrong cause = IsDeclared (described (unit_with number stmts)) cause
+IsFound stmts number SubTwice cause = IsOfName stmts number cause
+IsFound stmts number NoSub cause = IsOfName stmts number cause
+IsFound stmts number Recursion cause = IsOfName stmts number cause
+IsFound stmts number LabelTwice cause = IsOfLabels (unit_with number stmts) number cause
+IsFound stmts number LabelMissing cause = IsOfLabels (unit_with number stmts) number cause
+IsFound stmts number _ cause = ⊥
+
+-- what is told of a refusal: with names that are so, or by the tables
+abbrev pub IsCauseOf : (line : List ℕ) → List Labelled → Refusal → Cause → Type 0
+IsCauseOf line stmts refusal cause = IsFound stmts refusal.line refusal.code cause ⊎ IsOfCode line stmts refusal cause
+
+-- the report of a refusal: its cause, at the line of the text that it names
+pub record IsReportOf (file text : List ℕ) (refusal : Refusal) (code_name report : List ℕ) : Type 0 where
+  pub place : Place
+  pub cause : Cause
+  pub in_file : place.file.now ≡ file
+  pub at_line : place.line ≡ refusal.line
+  pub at_column : place.column ≡ column_at refusal.code (line_of text refusal.line)
+  pub cause_is : IsCauseOf (line_of text refusal.line) (parsed (raws_of (reading text))) refusal cause
+  pub report_is : report ≡ written place (line_of text refusal.line) cause code_name
