@@ -1,0 +1,10 @@
+mod ChangedNames
+mod CopiedLists
+mod EntityKeys
+mod EntityNames
+mod FreeTexts
+mod OwnNames
+mod Places
+mod ReadUnits
+mod UnitNames
+mod WrittenLists

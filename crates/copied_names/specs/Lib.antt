@@ -1,0 +1,5 @@
+pub mod CopiedNames
+pub mod CopiesNamed
+pub mod OneUnit
+pub mod UnitLists
+pub mod WrittenNames
