@@ -20,15 +20,16 @@ _dfc() {
 _dfc_view() {
     local word=${COMP_WORDS[COMP_CWORD]} command=${COMP_WORDS[1]} options=
     if [ "$COMP_CWORD" -eq 1 ]; then
-        options='chart rounds page dot json profile --help -h --version'
-    elif [ "$COMP_CWORD" -eq 2 ]; then
-        COMPREPLY=($(compgen -f -- "$word"))
-        [ "$command" = dot ] && options='--regions --lines'
+        options='chart rounds page deps independent check names run dot json profile --help -h --version'
     else
+        COMPREPLY=($(compgen -f -- "$word"))
         case $command in
-        rounds | page | profile) options='limit= picks= data= checked forks' ;;
+        rounds | page | profile | json | run) options='limit= picks= data= checked forks' ;;
+        dot) options='--regions --lines checked' ;;
+        deps) options='--json checked' ;;
         *) options='checked' ;;
         esac
+        [ "$COMP_CWORD" -eq 2 ] && options="$options --help"
     fi
     COMPREPLY+=($(compgen -W "$options" -- "$word"))
     # A number follows the equals sign.

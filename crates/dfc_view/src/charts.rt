@@ -1,5 +1,7 @@
 //! Lane charts, rounds and pages.
 
+ghost use Rattle.std.specs.Prelude.{◌≡◌, IfOk, Some};
+
 use df_io::Sink;
 use lane_charts::{ChartFault, Run, lane_chart, page, rounds_chart};
 use printed_graphs::{Printed, PrintedFlow, PrintedGraph, PrintedTrace};
@@ -114,8 +116,10 @@ fn of_page<'a>(run: ShownRun<'a>, trace: &'a PrintedTrace, rounds: &'a [u32]) ->
     }
 }
 
-// Both graphs.
-fn graphs_of(printed: &Printed) -> Result<(&PrintedFlow, &PrintedGraph), Fault> {
+/// Both graphs.
+pub fn graphs_of(printed: &Printed) -> Result<(&PrintedFlow, &PrintedGraph), Fault>
+    ensures { IfOk result (λ both. (printed.now.flow ≡ Some both.0.now) × (printed.now.graph ≡ Some both.1.now)) }
+{
     match (&printed.flow, &printed.graph) {
         (Some(flow), Some(graph)) => Ok((flow, graph)),
         _ => Err(Fault::NoText),

@@ -1,25 +1,32 @@
-//! `dfc_view`: charts, pictures, JSON and profiles of a program.
+//! `dfc_view`: charts, dependences, pictures, JSON and profiles of a program, what it prints, and what is wrong with a text that is none.
 //!
 //! It takes a file, or what `dfc` printed of a program from standard input, and writes standard output; what it can't do it tells on standard error.
 //! Every function is proved to be safe and to end. docs/VIEWING.md shows the commands.
 #![tactic(auto)]
 
-mod arguments;
 mod charts;
 mod files;
-mod texts;
+mod refusals;
 mod view;
 
-use arguments::{Input, Job, Task, job_of};
 use df_io::{Sink, StdSink, StdSource};
-use files::show_file;
+use files::{run_file, show_file, show_names};
+use refusals::check_files;
 use std::process::ExitCode;
 use std::{env, io};
+use view_commands::{HELP, Job, VERSION, help_of, job_of};
 use view_output::{Fault, Output, status};
+
+/// The status where all is done, where a text that is checked is faulty, and where a program is refused.
+const DONE: u8 = 0;
+
+const FAULTY: u8 = 1;
+
+const REFUSED: u8 = 2;
 
 fn main(rt: HostRuntime) -> ExitCode {
     match run(&rt) {
-        Ok(()) => ExitCode::SUCCESS,
+        Ok(status) => ExitCode::from(status),
         Err(fault) => {
             let _ = tell(&rt, fault);
             ExitCode::from(status(fault))
@@ -27,33 +34,38 @@ fn main(rt: HostRuntime) -> ExitCode {
     }
 }
 
-// Does what the words ask for.
-fn run(rt: &HostRuntime) -> Result<(), Fault> {
+// Does what the words ask for, and answers the status to end with.
+fn run(rt: &HostRuntime) -> Result<u8, Fault> {
     let words = words_of(rt)?;
     let job = job_of(rt.alloc(), words.as_slice())?;
     let mut output = Output::new(rt.alloc(), StdSink::new(rt.stdout()))?;
-    match job {
-        Job::Help => output.text(arguments::HELP)?,
-        Job::Version => output.text(arguments::VERSION)?,
-        Job::Show(task, input) => show(rt, task, input, &mut output)?,
-    }
-    output.finish()
+    let status = do_job(rt, job, &mut output)?;
+    output.finish()?;
+    Ok(status)
 }
 
-// Shows something of a program.
-fn show<K: Sink + Drop>(
+// Does a job, and answers the status to end with.
+fn do_job<K: Sink + Drop>(
     rt: &HostRuntime,
-    task: Task,
-    input: Input<'_>,
+    job: Job<'_>,
     output: &mut Output<K>,
-) -> Result<(), Fault> {
-    match input {
-        Input::Printed => {
-            let mut source = StdSource::new(rt.stdin());
-            view::show(rt.alloc(), task, &mut source, output)
-        }
-        Input::File(name, words) => show_file(rt, task, name, words, output),
+) -> Result<u8, Fault> {
+    match job {
+        Job::Help => output.text(HELP)?,
+        Job::HelpOf(command) => output.text(help_of(command))?,
+        Job::Version => output.text(VERSION)?,
+        Job::Show(task, program) => match program {
+            None => {
+                let mut source = StdSource::new(rt.stdin());
+                view::show(rt.alloc(), task, &mut source, output)?;
+            }
+            Some(program) => return show_file(rt, task, program, output),
+        },
+        Job::Check(files) => return check_files(rt, files, output),
+        Job::Names(program) => return show_names(rt, program, output),
+        Job::Run(program) => return run_file(rt, program, output),
     }
+    Ok(DONE)
 }
 
 // The words after the program's name.
@@ -81,6 +93,7 @@ fn tell(rt: &HostRuntime, fault: Fault) -> io::Result<()> {
         }
         Fault::Firing(line) => eprintln!(rt; "dfc_view: line {line} fires no node of the graph"),
         Fault::Refused => eprintln!(rt; "dfc_view: dfc refused the program"),
+        Fault::NoStatement(line) => eprintln!(rt; "dfc_view: no operation is of line {line}"),
         Fault::NoLine(line) => eprintln!(rt; "dfc_view: the graph has no token line {line}"),
         Fault::File => eprintln!(rt; "dfc_view: the file can't be read"),
         Fault::NoText => eprintln!(rt; "dfc_view: what is asked for is not in the text"),

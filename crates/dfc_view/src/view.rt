@@ -1,19 +1,21 @@
 //! Reads a text and shows it.
 
-ghost use Rattle.std.specs.Prelude.{◌≡◌, OnOk};
-ghost use Rattle.dfc_view.specs.declared.arguments.Task.TheVariants as task_kind;
-ghost use Rattle.dfc_view.specs.Shown.{ShowsJson, ShowsText};
+ghost use Rattle.std.specs.Prelude.{OnOk};
+ghost use Rattle.dfc_view.specs.Shown.{ShowsOf, ShowsSource, ShowsText};
+ghost use Rattle.view_commands.specs.Words.{Dependences, DependencesJson, Independent, task_meant};
 ghost use Rattle.view_output.specs.Told.{told};
 
-use crate::arguments::Task;
-use crate::charts::{ShownRun, write_chart, write_page_of_one, write_rounds};
+use crate::charts::{ShownRun, graphs_of, write_chart, write_page_of_one, write_rounds};
+use dependence_texts::{write_dependences, write_dependences_json, write_independence};
 use df_io::{Sink, Source, read_all};
+use graph_dependences::has_operations;
 use graph_json::Json;
-use graph_pictures::{Lines, write_flow, write_graph};
-use printed_graphs::{Printed, ReadFault, read_printed};
+use graph_pictures::{write_flow, write_graph};
+use printed_graphs::{Printed, PrintedFlow, PrintedGraph, ReadFault, read_printed};
 use std::alloc::Global;
 use trace_profiles::write_profile;
-use view_output::{Fault, Output, line_of};
+use view_commands::Task;
+use view_output::{Fault, Lines, Output, line_of};
 
 // The most bytes of a text.
 const LONGEST: u32 = 4_294_967_294;
@@ -25,7 +27,7 @@ pub fn show<S: Source, K: Sink + Drop>(
     source: &mut S,
     output: &mut Output<K>,
 ) -> Result<(), Fault>
-    ensures json { task ≡ task_kind.Json → OnOk result (ShowsJson (S.left source.old) (S.left source.new) (told K.got output.old) (told K.got output.new)) }
+    ensures { OnOk result (ShowsSource (task_meant task) (S.left source.old) (S.left source.new) (told K.got output.old) (told K.got output.new)) }
 {
     let text = read_all(alloc, source, LONGEST)?;
     show_text(alloc, task, text.as_slice(), &[], output)
@@ -39,30 +41,99 @@ pub fn show_text<K: Sink + Drop>(
     source: &[u8],
     output: &mut Output<K>,
 ) -> Result<(), Fault>
-    ensures json { task ≡ task_kind.Json → OnOk result (ShowsText text.now (told K.got output.old) (told K.got output.new)) }
+    ensures { OnOk result (ShowsText (task_meant task) text.now (told K.got output.old) (told K.got output.new)) }
 {
     if text.is_empty() {
         return Err(Fault::NoText);
     }
-    let printed = match read_printed(alloc, text) {
-        Ok(printed) => printed,
-        Err(fault) => return Err(unread(text, fault, output)?),
-    };
+    match read_printed(alloc, text) {
+        Ok(printed) => show_printed(alloc, task, &printed, source, output),
+        Err(fault) => Err(unread(text, fault, output)?),
+    }
+}
+
+// Shows something of a program, whose own text may be empty.
+fn show_printed<K: Sink + Drop>(
+    alloc: Global,
+    task: Task,
+    printed: &Printed,
+    source: &[u8],
+    output: &mut Output<K>,
+) -> Result<(), Fault>
+    ensures { OnOk result (ShowsOf (task_meant task) printed.now (told K.got output.old) (told K.got output.new)) }
+{
     match task {
-        Task::Chart => write_chart(alloc, &printed, source, output),
-        Task::Rounds => write_rounds(alloc, &printed, source, output),
+        Task::Chart => write_chart(alloc, printed, source, output),
+        Task::Rounds => write_rounds(alloc, printed, source, output),
         Task::Page => {
             let run = ShownRun {
                 name: "The run",
-                printed: &printed,
+                printed,
                 output: &[],
             };
             write_page_of_one(alloc, run, source, output)
         }
-        Task::Regions => flow_picture(alloc, &printed, true, output),
-        Task::Dot(lines) => picture(alloc, &printed, &lines, output),
+        Task::Regions => flow_picture(alloc, printed, true, output),
+        Task::Dot(lines) => picture(alloc, printed, &lines, output),
         Task::Json => printed.write(output),
-        Task::Profile => profile_of(alloc, &printed, output),
+        Task::Profile => profile_of(alloc, printed, output),
+        Task::Dependences => show_dependences(alloc, printed, output),
+        Task::DependencesJson => show_dependences_json(alloc, printed, output),
+        Task::Independent(first, second) => {
+            show_independence(alloc, printed, first, second, output)
+        }
+    }
+}
+
+// The dependences between statements.
+fn show_dependences<K: Sink + Drop>(
+    alloc: Global,
+    printed: &Printed,
+    output: &mut Output<K>,
+) -> Result<(), Fault>
+    ensures { OnOk result (ShowsOf Dependences printed.now (told K.got output.old) (told K.got output.new)) }
+{
+    let (flow, graph) = graphs_of(printed)?;
+    write_dependences(alloc, flow, graph, output)?;
+    Ok(())
+}
+
+// The same as JSON.
+fn show_dependences_json<K: Sink + Drop>(
+    alloc: Global,
+    printed: &Printed,
+    output: &mut Output<K>,
+) -> Result<(), Fault>
+    ensures { OnOk result (ShowsOf DependencesJson printed.now (told K.got output.old) (told K.got output.new)) }
+{
+    let (flow, graph) = graphs_of(printed)?;
+    write_dependences_json(alloc, flow, graph, output)?;
+    Ok(())
+}
+
+// Whether the statements at two lines wait for one another.
+fn show_independence<K: Sink + Drop>(
+    alloc: Global,
+    printed: &Printed,
+    first: u32,
+    second: u32,
+    output: &mut Output<K>,
+) -> Result<(), Fault>
+    ensures { OnOk result (ShowsOf (Independent first second) printed.now (told K.got output.old) (told K.got output.new)) }
+{
+    let (flow, graph) = graphs_of(printed)?;
+    check_statement(flow, graph, first)?;
+    check_statement(flow, graph, second)?;
+    write_independence(alloc, flow, graph, first, second, output)?;
+    Ok(())
+}
+
+// Whether a statement that does something begins at a line.
+fn check_statement(flow: &PrintedFlow, graph: &PrintedGraph, line: u32) -> Result<(), Fault> {
+    if has_operations(graph, flow, line) {
+        Ok(())
+    } else {
+        Err(Fault::NoStatement(line))
     }
 }
 

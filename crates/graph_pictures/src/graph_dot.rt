@@ -2,13 +2,12 @@
 //! regions dashed, values as thin edges.
 
 use crate::flow_dot::colour;
-use crate::lines::Lines;
 use crate::places::{at, put};
 use crate::wires_dot::write_wires;
 use df_io::Sink;
 use printed_graphs::{Node, Operand, PrintedFlow, PrintedGraph, Value, work_name};
 use std::alloc::Global;
-use view_output::{Fault, Output};
+use view_output::{Fault, Lines, Output};
 
 /// Writes the picture. The wires between pieces are in it where the flow graph is given.
 pub fn write_graph<K: Sink + Drop>(

@@ -4,10 +4,8 @@
 mod clusters;
 mod flow_dot;
 mod graph_dot;
-mod lines;
 mod places;
 mod wires_dot;
 
 pub use flow_dot::write_flow;
 pub use graph_dot::write_graph;
-pub use lines::Lines;

@@ -1,12 +1,11 @@
 //! The wires of a dataflow graph, and its hops past quiet regions, from piece to piece.
 
 use crate::graph_dot::write_looks;
-use crate::lines::Lines;
 use crate::places::{at, put};
 use df_io::Sink;
 use printed_graphs::{Bypass, Edge, Node, PieceKind, PrintedFlow, PrintedGraph};
 use std::alloc::Global;
-use view_output::{Fault, Output};
+use view_output::{Fault, Lines, Output};
 
 // Where one line comes to each piece and where it leaves it.
 #[derive(Drop)]

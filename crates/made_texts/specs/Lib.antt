@@ -1,1 +1,2 @@
 pub mod TextSink
+pub mod Texts

@@ -3,6 +3,7 @@
 
 mod jobs;
 mod text_sink;
+mod texts;
 
-pub use jobs::print_job;
 pub use text_sink::TextSink;
+pub use texts::{print_graphs, print_output, print_run};

@@ -1,3 +1,4 @@
 mod Greatest
 mod PlacesTold
 mod WaitsTold
+pub mod Gathered

@@ -1,6 +1,8 @@
 //! How wide a program is: how many nodes of a trace could have fired in each round.
 
-ghost use Rattle.std.specs.Prelude.{◌≡◌, ◌<◌, true, length};
+ghost use Rattle.std.specs.Prelude.{◌≡◌, ◌↔◌, ℕ, [], All, Err, IfOk, IsTrue, Some};
+ghost use Rattle.view_output.specs.declared.fault.Fault.TheVariants as fault;
+ghost use Rattle.trace_profiles.specs.RunRounds.{Fires, TellsFiring, name_of, rounds_from};
 
 use crate::bars::write_table;
 use crate::rounds::Rounds;
@@ -34,7 +36,11 @@ pub fn rounds_of(
     graph: &PrintedGraph,
     firings: &[Firing],
     before: u64,
-) -> Result<Vec<u32>, Fault> {
+) -> Result<Vec<u32>, Fault>
+    ensures rounds { IfOk result (λ all. all.items ≡ rounds_from graph.now [] firings.now) }
+    ensures nodes { IfOk result (λ all. All (Fires graph.now.nodes.items) firings.now) }
+    ensures firing { (line : ℕ) → result ≡ Err (fault.Firing line) → TellsFiring graph.now.nodes.items firings.now before line }
+{
     let mut rounds = Rounds::new(alloc, graph)?;
     let mut all = Vec::new(alloc);
     let mut line = before;
@@ -70,7 +76,7 @@ fn count(widths: &mut Vec<u32>, round: u32) -> Result<(), Fault> {
 
 // Whether the graph has the node that fired.
 fn is_node(nodes: &[Node], firing: Firing) -> bool
-    ensures { result ≡ true → firing.node < length nodes.now }
+    ensures { IsTrue result ↔ (Fires nodes.now firing) }
 {
     match nodes.get(firing.node as usize) {
         Some(node) => has_name(node, firing.name),
@@ -79,7 +85,9 @@ fn is_node(nodes: &[Node], firing: Firing) -> bool
 }
 
 // Whether this is the node's name.
-fn has_name(node: &Node, name: NodeName) -> bool {
+fn has_name(node: &Node, name: NodeName) -> bool
+    ensures { IsTrue result ↔ (name_of node.now ≡ name) }
+{
     match node {
         Node::Operation { piece, number, .. } => {
             name == NodeName::Operation {

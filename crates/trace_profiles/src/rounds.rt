@@ -10,8 +10,7 @@ ghost use Rattle.trace_profiles.specs.Tables.{IsMarked, Tells, given_in, operand
 
 use crate::tables::{at, greater, place_at, put, put_place, raise};
 use printed_graphs::{Node, Operand, PrintedGraph, Value, Work};
-use std::alloc::Global;
-use view_output::Fault;
+use std::alloc::{AllocError, Global};
 
 /// The rounds of the last firings, by what they did. A round is counted from 1, and 0 stands for none.
 #[derive(Drop)]
@@ -35,7 +34,7 @@ pub struct Rounds<'a> {
 
 impl<'a> Rounds<'a> {
     /// Nothing has fired yet.
-    pub fn new(alloc: Global, graph: &'a PrintedGraph) -> Result<Rounds<'a>, Fault>
+    pub fn new(alloc: Global, graph: &'a PrintedGraph) -> Result<Rounds<'a>, AllocError>
         ensures graph { IfOk result (λ r. r.graph.now ≡ graph.now) }
         ensures none { IfOk result (λ r. Tells r []) }
     {
@@ -212,7 +211,11 @@ fn put_giver(numbers: &mut Vec<u32>, operand: Operand, n: u32)
 }
 
 // For each node the place of its operands in the list of values, counted from 1, or 0.
-fn places_of_operands(alloc: Global, nodes: usize, values: &[Value]) -> Result<Vec<usize>, Fault>
+fn places_of_operands(
+    alloc: Global,
+    nodes: usize,
+    values: &[Value],
+) -> Result<Vec<usize>, AllocError>
     ensures { IfOk result (λ places. (k : ℕ) → k < nodes → operands_by (slice_index places.items k) values.now ≡ operands_in values.now k []) }
 {
     let mut places = vec![in alloc; 0usize; nodes]?;
@@ -225,7 +228,7 @@ fn places_of_operands(alloc: Global, nodes: usize, values: &[Value]) -> Result<V
 }
 
 // For each node the number of its run.
-fn runs_of_nodes(alloc: Global, nodes: &[Node]) -> Result<Vec<usize>, Fault>
+fn runs_of_nodes(alloc: Global, nodes: &[Node]) -> Result<Vec<usize>, AllocError>
     ensures { IfOk result (λ runs. runs.items ≡ runs_from None 0 nodes.now) }
 {
     let mut runs = Vec::with_capacity(alloc, nodes.len())?;

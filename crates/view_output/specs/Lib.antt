@@ -1,2 +1,4 @@
+pub mod Lines
+pub mod ShownLines
 pub mod Statuses
 pub mod Told

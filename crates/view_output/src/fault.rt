@@ -17,6 +17,8 @@ pub enum Fault {
     Firing(u64),
     /// The text is a refusal by `dfc`, which was passed on.
     Refused,
+    /// No operation of the graph comes from this line of the program.
+    NoStatement(u32),
     /// The graph doesn't have this line of tokens.
     NoLine(u32),
     /// The file can't be read.
@@ -42,7 +44,7 @@ pub fn status(fault: Fault) -> u8
     match fault {
         Fault::Usage => 1,
         Fault::Line(_) | Fault::Firing(_) | Fault::Refused => 2,
-        Fault::NoLine(_) | Fault::NoText | Fault::TooLong => 2,
+        Fault::NoStatement(_) | Fault::NoLine(_) | Fault::NoText | Fault::TooLong => 2,
         Fault::Read | Fault::File => 5,
         Fault::Write => 6,
         Fault::NoMemory => 7,

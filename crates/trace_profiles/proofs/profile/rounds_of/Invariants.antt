@@ -1,5 +1,5 @@
-use Rattle.std.proofs.Common.{◌≡◌}
+use Rattle.trace_profiles.proofs.Gathered.{Gathers}
 use Rattle.trace_profiles.proofs.profile.rounds_of.Given as goal
 
 abbrev pub invariant-loop-firing : goal.invariant-loop-firing
-invariant-loop-firing l = l.rounds.graph.now ≡ l.graph
+invariant-loop-firing l = Gathers l.graph l.firings l.rounds l.all.items l.firing-index l.before l.line

@@ -1,2 +1,0 @@
-mod NumberLists
-mod NumbersAgain

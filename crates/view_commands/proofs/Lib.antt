@@ -1,0 +1,3 @@
+mod NumberLists
+mod NumbersAgain
+mod WordLists
