@@ -1,4 +1,5 @@
 pub mod Prefixes
 pub mod LongTexts
+mod Buffered
 mod MemLemmas
 mod Transfers

@@ -1,4 +1,3 @@
-pub mod Adapter
 pub mod Faults
 pub mod MemSink
 pub mod MemSource

@@ -1,9 +1,9 @@
 -- Runs that are made step after step.
 use Rattle.std.proofs.Common.{◌≡◌, ℕ, zero, suc, ◌+◌, ◌-◌, ◌<◌, ◌≤◌, ℤ, List, [], ◌++◌, Option, refl, sym, ap, subst, ◌∙◌, ◌⊎◌, ⊎_elim, append-nil, arith}
-use Rattle.df_io.specs.TextBuffer.{IsWrittenBut}
+use Rattle.std.specs.Io.KnownBytes.{Appends}
+use Rattle.std.proofs.KnownBytes.{Appends-trans}
 use Rattle.df_io.specs.Write.{AppendsPrefix}
-use Rattle.df_io.proofs.LongTexts.{fault_at_piece, one_more_piece}
-use Rattle.df_io.proofs.Prefixes.{AppendsPrefix-longer}
+use Rattle.df_io.proofs.Prefixes.{AppendsPrefix-after, AppendsPrefix-longer}
 use Rattle.f77_meaning.specs.declared.stepper.Stepped.{Stepped}
 use Rattle.f77_meaning.specs.declared.stepper.Stepper.{Stepper}
 use Rattle.f77_meaning.specs.Stepper.{input_of, last_line, program_of, state_of, told_mark, told_text}
@@ -12,7 +12,7 @@ use Rattle.f77_tree.specs.Prefixes.{IsPrefix}
 use Rattle.f77_tree.specs.Run.{Mark, Running, Ended, Trapped, State, out, source, step}
 use Rattle.dfc_jobs.specs.declared.run.RunEnd.{RunEnd}
 use Rattle.dfc_jobs.specs.Due.{MakesSteps}
-use Rattle.dfc_jobs.specs.Stopping.{IsBrokenOff, IsMade, end_by}
+use Rattle.dfc_jobs.specs.Stopping.{IsBrokenOff, IsWritten, end_by}
 
 module _ (p : Program) (input : List ℤ) (limit : ℕ) where
   abbrev mark_at : ℕ → Mark
@@ -85,16 +85,16 @@ module _ (p : Program) (input : List ℤ) (limit : ℕ) where
         prefix = subst (AppendsPrefix old new) (sym whole.is) (AppendsPrefix-longer old new (out p input n) whole.more prefix);
       }
 
--- ---- a stepper and a buffer
+-- ---- a stepper and a sink
 
--- After so many steps a run goes on; what it has written was written out but for what the buffer holds, and no count of faults fell.
-pub record IsGoing (p : Program) (input : List ℤ) (limit made : ℕ) (s : Stepper) (held : List ℕ) (old new : Option (List ℕ)) (faults_old faults_new : ℕ) : Type 0 where
+-- After so many steps a run goes on; what it prints was written, and no count of faults fell.
+pub record IsGoing (p : Program) (input : List ℤ) (limit made : ℕ) (s : Stepper) (old new : Option (List ℕ)) (faults_old faults_new : ℕ) : Type 0 where
   pub program : program_of s ≡ p
   pub words : input_of s ≡ input
   pub state : state_of s (out p input made) ≡ source p input made
   pub going : GoesOn p input limit (made + 1)
   pub within : made ≤ limit
-  pub written : IsWrittenBut held old new (out p input made)
+  pub written : Appends old new (out p input made)
   pub later : faults_old ≤ faults_new
 
 -- what a step tells
@@ -119,17 +119,17 @@ next_step p input made s t told program words state steps mark =
       mark = ap (λ (x : State). x.mark) is ∙ mark;
     }
 
-module _ (p : Program) (input : List ℤ) (limit made : ℕ) (s : Stepper) (held : List ℕ) (old mid : Option (List ℕ)) (faults_old faults_mid : ℕ) (inv : IsGoing p input limit made s held old mid faults_old faults_mid) (less : made < limit) (t : Stepper) where
+module _ (p : Program) (input : List ℤ) (limit made : ℕ) (s : Stepper) (old mid : Option (List ℕ)) (faults_old faults_mid : ℕ) (inv : IsGoing p input limit made s old mid faults_old faults_mid) (less : made < limit) (t : Stepper) where
   within_limit : made + 1 ≤ limit
   within_limit = omega (arith, less)
 
   -- the run stops at this step
-  pub stopped_here : (told : Stepped) (end : RunEnd) → IsNextStep p input made t told → (told_mark told ≡ Running → ⊥) → told_text told (last_line t) ≡ [] → end ≡ end_by (told_mark told) → IsMade p input limit end held old mid
+  pub stopped_here : (told : Stepped) (end : RunEnd) → IsNextStep p input made t told → (told_mark told ≡ Running → ⊥) → told_text told (last_line t) ≡ [] → end ≡ end_by (told_mark told) → IsWritten p input limit end old mid
   stopped_here told end is stops no_text same = record {
     steps = made + 1;
     made = record { most = within_limit; before = inv.going; last = λ runs. absurd (stops (sym is.mark ∙ runs)) };
     ended = same ∙ ap end_by (sym is.mark);
-    written = subst (IsWrittenBut held old mid) (sym (is.text ∙ ap (λ (bytes : List ℕ). out p input made ++ bytes) no_text ∙ append-nil (out p input made))) inv.written;
+    written = subst (Appends old mid) (sym (is.text ∙ ap (λ (bytes : List ℕ). out p input made ++ bytes) no_text ∙ append-nil (out p input made))) inv.written;
   }
 
   going_more : (told : Stepped) → IsNextStep p input made t told → told_mark told ≡ Running → GoesOn p input limit (made + 1 + 1)
@@ -139,14 +139,14 @@ module _ (p : Program) (input : List ℤ) (limit made : ℕ) (s : Stepper) (held
 
   -- it goes on, and writes nothing at this step
   pub moved_on : (told : Stepped) → IsNextStep p input made t told → told_mark told ≡ Running → told_text told (last_line t) ≡ [] → program_of t ≡ program_of s → input_of t ≡ input_of s
-      → IsGoing p input limit (made + 1) t held old mid faults_old faults_mid
+      → IsGoing p input limit (made + 1) t old mid faults_old faults_mid
   moved_on told is runs no_text program words = record {
     program = program ∙ inv.program;
     words = words ∙ inv.words;
     state = is.state;
     going = going_more told is runs;
     within = within_limit;
-    written = subst (IsWrittenBut held old mid) (sym (is.text ∙ ap (λ (bytes : List ℕ). out p input made ++ bytes) no_text ∙ append-nil (out p input made))) inv.written;
+    written = subst (Appends old mid) (sym (is.text ∙ ap (λ (bytes : List ℕ). out p input made ++ bytes) no_text ∙ append-nil (out p input made))) inv.written;
     later = inv.later;
   }
 
@@ -154,10 +154,10 @@ module _ (p : Program) (input : List ℤ) (limit made : ℕ) (s : Stepper) (held
     line_is : out p input made ++ bytes ≡ out p input (made + 1)
     line_is = ap (λ (line : List ℕ). out p input made ++ line) same ∙ sym is.text
 
-    -- it goes on, and the line of this step was appended
-    pub line_on : (left : List ℕ) (faults_new : ℕ) → told_mark told ≡ Running → program_of t ≡ program_of s → input_of t ≡ input_of s → IsWrittenBut left mid new (held ++ bytes) → faults_mid ≤ faults_new
-        → IsGoing p input limit (made + 1) t left old new faults_old faults_new
-    line_on left faults_new runs program words now later =
+    -- it goes on, and the line of this step was written
+    pub line_on : (faults_new : ℕ) → told_mark told ≡ Running → program_of t ≡ program_of s → input_of t ≡ input_of s → Appends mid new bytes → faults_mid ≤ faults_new
+        → IsGoing p input limit (made + 1) t old new faults_old faults_new
+    line_on faults_new runs program words now later =
         let before = inv.later in
         record {
           program = program ∙ inv.program;
@@ -165,12 +165,12 @@ module _ (p : Program) (input : List ℤ) (limit made : ℕ) (s : Stepper) (held
           state = is.state;
           going = going_more told is runs;
           within = within_limit;
-          written = subst (IsWrittenBut left old new) line_is (one_more_piece old mid new held (out p input made) bytes left inv.written now);
+          written = subst (Appends old new) line_is (Appends-trans old mid new (out p input made) bytes inv.written now);
           later = omega (arith, before, later);
         }
 
     -- the sink failed at the line of this step
-    pub fault_at_line : Grows p input limit → AppendsPrefix mid new (held ++ bytes) → IsBrokenOff p input limit old new
+    pub fault_at_line : Grows p input limit → AppendsPrefix mid new bytes → IsBrokenOff p input limit old new
     fault_at_line grows prefix =
         broken_off p input limit grows (made + 1) old new within_limit inv.going
-        (subst (AppendsPrefix old new) line_is (fault_at_piece old mid new held (out p input made) bytes inv.written prefix))
+        (subst (AppendsPrefix old new) line_is (AppendsPrefix-after old mid new (out p input made) bytes inv.written prefix))

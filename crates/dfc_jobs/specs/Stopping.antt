@@ -1,23 +1,21 @@
 -- Runs of programs that are made step after step, with what is written of them. No public clause cites this module.
 use Rattle.std.specs.Prelude.{◌≡◌, ℕ, ℤ, List, [], Option}
 use Rattle.std.specs.Io.KnownBytes.{Appends}
-use Rattle.df_io.specs.TextBuffer.{IsWrittenBut}
 use Rattle.df_io.specs.Write.{AppendsPrefix}
+use Rattle.f77_meaning.specs.declared.stepper.Stepper.{Stepper}
 use Rattle.f77_meaning.specs.Stepper.{input_of, program_of, state_of}
 use Rattle.f77_tree.specs.declared.programs.Program.{Program}
 use Rattle.f77_tree.specs.Run as runs
 use Rattle.f77_tree.specs.Run.{Mark, out, source, start}
-use Rattle.dfc_jobs.specs.declared.run.Run.{Run}
 use Rattle.dfc_jobs.specs.declared.run.RunEnd.{RunEnd}
 use Rattle.dfc_jobs.specs.declared.run.RunEnd.TheVariants.{Ended, Trapped, Limit}
 use Rattle.dfc_jobs.specs.Due.{MakesSteps}
 
--- a run of the program over these data, at its beginning, of which nothing is written
-pub record IsAtStart (p : Program) (input : List ℤ) (run : Run) : Type 0 where
-  pub program : program_of run.stepper ≡ p
-  pub words : input_of run.stepper ≡ input
-  pub state : state_of run.stepper [] ≡ start p
-  pub buffer : run.buffer ≡ []
+-- a run of the program over these data, at its beginning
+pub record IsAtStart (p : Program) (input : List ℤ) (run : Stepper) : Type 0 where
+  pub program : program_of run ≡ p
+  pub words : input_of run ≡ input
+  pub state : state_of run [] ≡ start p
 
 -- how a run has stopped that has this mark after its last step
 abbrev pub end_by : Mark → RunEnd
@@ -25,14 +23,7 @@ end_by runs.Running = Limit
 end_by runs.Ended = Ended
 end_by (runs.Trapped trap line) = Trapped trap
 
--- A run was made to its end, a trap or the limit, and its output was written but for what the buffer holds.
-pub record IsMade (p : Program) (input : List ℤ) (limit : ℕ) (end : RunEnd) (buffer : List ℕ) (old new : Option (List ℕ)) : Type 0 where
-  pub steps : ℕ
-  pub made : MakesSteps p input limit steps
-  pub ended : end ≡ end_by (source p input steps).mark
-  pub written : IsWrittenBut buffer old new (out p input steps)
-
--- all of its output was written
+-- A run was made to its end, a trap or the limit, and all of its output was written.
 pub record IsWritten (p : Program) (input : List ℤ) (limit : ℕ) (end : RunEnd) (old new : Option (List ℕ)) : Type 0 where
   pub steps : ℕ
   pub made : MakesSteps p input limit steps

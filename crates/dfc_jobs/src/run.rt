@@ -9,12 +9,12 @@ ghost use Rattle.f77_tree.specs.Run.{start};
 ghost use Rattle.f77_tree.specs.WellFormed.{IsWellFormed};
 ghost use Rattle.dfc_jobs.specs.Answers.{AnswersAs};
 ghost use Rattle.dfc_jobs.specs.Due.{IsDueRun, IsDueRunOf};
-ghost use Rattle.dfc_jobs.specs.Stopping.{IsAtStart, IsBrokenOff, IsMade, IsWritten};
+ghost use Rattle.dfc_jobs.specs.Stopping.{IsAtStart, IsBrokenOff, IsWritten};
 
 use crate::lines::{tell_limit, tell_trap_alone};
 use crate::rewriting_end::tell_end;
 use crate::status::Status;
-use df_io::{NoMemory, Sink, TextBuffer, WriteFault};
+use df_io::{NoMemory, Sink, WriteFault, write_all};
 use f77_meaning::{Stepped, Stepper};
 use f77_tree::{Program, stopped_runs_stay, well_formed_programs_can_run};
 use op_table::Trap;
@@ -43,13 +43,6 @@ pub fn tell_run<K: Sink>(
         Ok(form) => run_form(alloc, limit, input, &form, sink),
         Err(end) => tell_end(end, sink),
     }
-}
-
-/// A run, and the buffer through which its output is written.
-#[derive(Drop)]
-pub struct Run<'a> {
-    stepper: Stepper<'a>,
-    buffer: TextBuffer,
 }
 
 /// How a run stopped.
@@ -86,28 +79,29 @@ fn run_form<K: Sink>(
 }
 
 /// The run of a program over data, at its beginning.
-pub fn run_of<'a>(alloc: Global, input: &Vec<i32>, form: &'a Program) -> Result<Run<'a>, NoMemory>
+pub fn run_of<'a>(
+    alloc: Global,
+    input: &Vec<i32>,
+    form: &'a Program,
+) -> Result<Stepper<'a>, NoMemory>
     requires { CanRun form.now }
     ensures { IfOk result (λ run. IsAtStart form.now input.now.items run) }
 {
-    Ok(Run {
-        stepper: Stepper::new(alloc, form, input)?,
-        buffer: TextBuffer::new(alloc)?,
-    })
+    Stepper::new(alloc, form, input)
 }
 
 /// Makes the steps of a run, and tells of them and of how they end. It takes no memory.
-pub fn tell_steps<K: Sink>(run: &mut Run<'_>, limit: u64, sink: &mut K) -> Status
-    requires can { CanRun (program_of run.old.stepper) }
-    requires begins { IsAtStart (program_of run.old.stepper) (input_of run.old.stepper) run.old }
-    ensures due { AnswersAs (IsDueRunOf (program_of run.old.stepper) (input_of run.old.stepper) limit) (K.got sink.old) (K.got sink.new) result }
+pub fn tell_steps<K: Sink>(run: &mut Stepper<'_>, limit: u64, sink: &mut K) -> Status
+    requires can { CanRun (program_of run.old) }
+    requires begins { IsAtStart (program_of run.old) (input_of run.old) run.old }
+    ensures due { AnswersAs (IsDueRunOf (program_of run.old) (input_of run.old) limit) (K.got sink.old) (K.got sink.new) result }
     ensures usage { result ≢ Status.Usage }
     ensures reads { result ≢ Status.ReadFault }
     ensures memory { result ≢ Status.NoMemory }
     ensures later { K.faults sink.old ≤ K.faults sink.new }
     ensures fault { result ≡ Status.WriteFault → Rose (K.faults sink.old) (K.faults sink.new) }
 {
-    match write_steps(run, limit, sink) {
+    match make_steps(run, limit, sink) {
         Ok(RunEnd::Ended) => Status::Done,
         Ok(RunEnd::Trapped(trap)) => tell_trap_alone(trap, sink),
         Ok(RunEnd::Limit) => tell_limit(limit, sink),
@@ -115,41 +109,25 @@ pub fn tell_steps<K: Sink>(run: &mut Run<'_>, limit: u64, sink: &mut K) -> Statu
     }
 }
 
-// Makes the steps of a run and writes its output.
-fn write_steps<K: Sink>(run: &mut Run<'_>, limit: u64, sink: &mut K) -> Result<RunEnd, WriteFault>
-    requires can { CanRun (program_of run.old.stepper) }
-    requires begins { IsAtStart (program_of run.old.stepper) (input_of run.old.stepper) run.old }
-    ensures told { IfOk result (λ end. IsWritten (program_of run.old.stepper) (input_of run.old.stepper) limit end (K.got sink.old) (K.got sink.new)) }
-    ensures begun { OnErr result (IsBrokenOff (program_of run.old.stepper) (input_of run.old.stepper) limit (K.got sink.old) (K.got sink.new)) }
-    ensures later { K.faults sink.old ≤ K.faults sink.new }
-    ensures fault { OnErr result (Rose (K.faults sink.old) (K.faults sink.new)) }
-{
-    let end = make_steps(&mut run.stepper, limit, &mut run.buffer, sink)?;
-    run.buffer.write_out(sink)?;
-    Ok(end)
-}
-
-// Makes steps up to the end of the run, a trap or the limit, and appends what they write.
+// Makes steps up to the end of the run, a trap or the limit, and writes each line as it is printed.
 fn make_steps<K: Sink>(
-    stepper: &mut Stepper<'_>,
+    run: &mut Stepper<'_>,
     limit: u64,
-    buffer: &mut TextBuffer,
     sink: &mut K,
 ) -> Result<RunEnd, WriteFault>
-    requires can { CanRun (program_of stepper.old) }
-    requires starts { state_of stepper.old [] ≡ start (program_of stepper.old) }
-    requires buffer { buffer.old ≡ [] }
-    ensures told { IfOk result (λ end. IsMade (program_of stepper.old) (input_of stepper.old) limit end buffer.new (K.got sink.old) (K.got sink.new)) }
-    ensures begun { OnErr result (IsBrokenOff (program_of stepper.old) (input_of stepper.old) limit (K.got sink.old) (K.got sink.new)) }
+    requires can { CanRun (program_of run.old) }
+    requires starts { state_of run.old [] ≡ start (program_of run.old) }
+    ensures told { IfOk result (λ end. IsWritten (program_of run.old) (input_of run.old) limit end (K.got sink.old) (K.got sink.new)) }
+    ensures begun { OnErr result (IsBrokenOff (program_of run.old) (input_of run.old) limit (K.got sink.old) (K.got sink.new)) }
     ensures later { K.faults sink.old ≤ K.faults sink.new }
     ensures fault { OnErr result (Rose (K.faults sink.old) (K.faults sink.new)) }
 {
     stopped_runs_stay();
     let mut made: u64 = 0;
     while made < limit {
-        match stepper.step() {
+        match run.step() {
             Stepped::Moved => {}
-            Stepped::Line => buffer.append(stepper.line(), sink)?,
+            Stepped::Line => write_all(sink, run.line())?,
             Stepped::Ended => return Ok(RunEnd::Ended),
             Stepped::Trapped(trap, _) => return Ok(RunEnd::Trapped(trap)),
         }

@@ -31,11 +31,12 @@ use crate::lines::tell_refusal;
 use crate::net_parts::are_net_parts;
 use crate::reading::{NoProgram, read_bytes};
 use crate::rewriting_end::tell_end;
-use crate::run::{Run, run_of, tell_steps};
+use crate::run::{run_of, tell_steps};
 use crate::sample_lines::{found_line, net_line, sample_line};
 use crate::status::Status;
 use alias_classes::CLASS_WORDS;
 use df_io::{NoMemory, Sink, WriteFault, write_all};
+use f77_meaning::Stepper;
 use f77_tree::{Program, well_formed_programs_can_run};
 use firing::{Show, StepSystem, runs_end};
 use flow_analysis::{Analysis, analyze_by_ranges};
@@ -141,15 +142,15 @@ fn with_run<K: Sink>(
     alloc: Global,
     sample: Sample,
     program: &Program,
-    run: &mut Run<'_>,
+    run: &mut Stepper<'_>,
     sink: &mut K,
 ) -> Status
     requires program { IsWellFormed program.now }
     requires few { HasFewClasses program.now }
-    requires can { CanRun (program_of run.old.stepper) }
-    requires input { input_of run.old.stepper ≡ [] }
-    requires begins { IsAtStart (program_of run.old.stepper) (input_of run.old.stepper) run.old }
-    requires rewritten { IsRewritten program.now false (program_of run.old.stepper) }
+    requires can { CanRun (program_of run.old) }
+    requires input { input_of run.old ≡ [] }
+    requires begins { IsAtStart (program_of run.old) (input_of run.old) run.old }
+    requires rewritten { IsRewritten program.now false (program_of run.old) }
     ensures due { AnswersAs (IsSampleDue sample.number sample.bytes sample.limit program.now) (K.got sink.old) (K.got sink.new) result }
     ensures usage { result ≢ Status.Usage }
     ensures reads { result ≢ Status.ReadFault }
@@ -168,15 +169,15 @@ fn with_analysis<K: Sink>(
     sample: Sample,
     program: &Program,
     analysis: &Analysis<'_>,
-    run: &mut Run<'_>,
+    run: &mut Stepper<'_>,
     sink: &mut K,
 ) -> Status
     requires program { IsWellFormed program.now }
     requires analysis { IsRangeAnalysisOf program.now analysis.now }
-    requires can { CanRun (program_of run.old.stepper) }
-    requires input { input_of run.old.stepper ≡ [] }
-    requires begins { IsAtStart (program_of run.old.stepper) (input_of run.old.stepper) run.old }
-    requires rewritten { IsRewritten program.now false (program_of run.old.stepper) }
+    requires can { CanRun (program_of run.old) }
+    requires input { input_of run.old ≡ [] }
+    requires begins { IsAtStart (program_of run.old) (input_of run.old) run.old }
+    requires rewritten { IsRewritten program.now false (program_of run.old) }
     ensures due { AnswersAs (IsSampleDue sample.number sample.bytes sample.limit program.now) (K.got sink.old) (K.got sink.new) result }
     ensures usage { result ≢ Status.Usage }
     ensures reads { result ≢ Status.ReadFault }
@@ -205,17 +206,17 @@ fn tell_all<K: Sink>(
     sample: Sample,
     analysis: &Analysis<'_>,
     net: &mut OpNet<'_, CLASS_WORDS>,
-    run: &mut Run<'_>,
+    run: &mut Stepper<'_>,
     sink: &mut K,
 ) -> Status
     requires own { (net_of net.old).net.routing ≡ analysis.now.lines }
     requires sound { OperationsCanCome (net_of net.old) (marking_of net.old) }
     requires in_step { IsInStep (operation_moves (net_of net.old)) (StaysInStep (net_of net.old)) (marking_of net.old) net.old.control }
     requires control { net.old.control ≢ None }
-    requires can { CanRun (program_of run.old.stepper) }
-    requires input { input_of run.old.stepper ≡ [] }
-    requires begins { IsAtStart (program_of run.old.stepper) (input_of run.old.stepper) run.old }
-    ensures due { AnswersAs (IsAfter (sizes_text sample.number sample.bytes analysis.now.flow analysis.now.edge_classes.items analysis.now.tree (net_of net.old)) (AreBothOf (way_by (operation_moves (net_of net.old)) (operation_course (net_of net.old)) []) (moment (marking_of net.old) net.old.control) sample.limit (program_of run.old.stepper))) (K.got sink.old) (K.got sink.new) result }
+    requires can { CanRun (program_of run.old) }
+    requires input { input_of run.old ≡ [] }
+    requires begins { IsAtStart (program_of run.old) (input_of run.old) run.old }
+    ensures due { AnswersAs (IsAfter (sizes_text sample.number sample.bytes analysis.now.flow analysis.now.edge_classes.items analysis.now.tree (net_of net.old)) (AreBothOf (way_by (operation_moves (net_of net.old)) (operation_course (net_of net.old)) []) (moment (marking_of net.old) net.old.control) sample.limit (program_of run.old))) (K.got sink.old) (K.got sink.new) result }
     ensures usage { result ≢ Status.Usage }
     ensures reads { result ≢ Status.ReadFault }
     ensures later { K.faults sink.old ≤ K.faults sink.new }
@@ -232,16 +233,16 @@ fn tell_all<K: Sink>(
 fn tell_both<K: Sink>(
     limit: u64,
     net: &mut OpNet<'_, CLASS_WORDS>,
-    run: &mut Run<'_>,
+    run: &mut Stepper<'_>,
     sink: &mut K,
 ) -> Status
     requires sound { OperationsCanCome (net_of net.old) (marking_of net.old) }
     requires in_step { IsInStep (operation_moves (net_of net.old)) (StaysInStep (net_of net.old)) (marking_of net.old) net.old.control }
     requires control { net.old.control ≢ None }
-    requires can { CanRun (program_of run.old.stepper) }
-    requires input { input_of run.old.stepper ≡ [] }
-    requires begins { IsAtStart (program_of run.old.stepper) (input_of run.old.stepper) run.old }
-    ensures due { AnswersAs (AreBothOf (way_by (operation_moves (net_of net.old)) (operation_course (net_of net.old)) []) (moment (marking_of net.old) net.old.control) limit (program_of run.old.stepper)) (K.got sink.old) (K.got sink.new) result }
+    requires can { CanRun (program_of run.old) }
+    requires input { input_of run.old ≡ [] }
+    requires begins { IsAtStart (program_of run.old) (input_of run.old) run.old }
+    ensures due { AnswersAs (AreBothOf (way_by (operation_moves (net_of net.old)) (operation_course (net_of net.old)) []) (moment (marking_of net.old) net.old.control) limit (program_of run.old)) (K.got sink.old) (K.got sink.new) result }
     ensures usage { result ≢ Status.Usage }
     ensures reads { result ≢ Status.ReadFault }
     ensures memory { result ≢ Status.NoMemory }

@@ -1,28 +1,32 @@
-//! A writer of std that takes a part, and whose flush fails; a number in a buffer; and a value that is taken out of its box.
+//! Writers of std that take a part at a time and in the end nothing, or whose flush fails; a number in a buffer; and a value that is taken out
+//! of its box.
 use df_io::{Failed, MemSink, Sink, StdSink, TextBuffer};
 use df_sequence::{Boxed, Copied};
 use std::io;
-use std::io::{ErrorKind, Write};
+use std::io::{BufWriter, ErrorKind, Write};
 use std::test::Fail;
 
-/// A writer that takes so many bytes at once, and whose flush fails after so many.
+/// A writer that takes so many bytes at once and so many in all, and whose flush may fail.
 #[derive(Drop)]
 struct Slow {
     piece: usize,
-    flushes: u32,
+    room: usize,
+    flushes: bool,
 }
 
 impl Write for Slow {
     fn write(&mut self, from: &[u8]) -> io::Result<usize> {
-        Ok(from.len().min(self.piece))
+        let n = from.len().min(self.piece).min(self.room);
+        self.room -= n;
+        Ok(n)
     }
 
     fn flush(&mut self) -> io::Result<()> {
-        if self.flushes == 0 {
-            return Err(io::Error::from(ErrorKind::Other));
+        if self.flushes {
+            Ok(())
+        } else {
+            Err(io::Error::from(ErrorKind::Other))
         }
-        self.flushes -= 1;
-        Ok(())
     }
 }
 
@@ -30,10 +34,30 @@ impl Write for Slow {
 fn writers_of_std_are_sinks(rt: HostRuntime) {
     let mut sink = StdSink::new(Slow {
         piece: 2,
-        flushes: 1,
+        room: 3,
+        flushes: true,
     });
     assert!(rt; sink.write(b"123") == Ok(2));
-    assert!(rt; sink.write(b"3") == Err(Failed));
+    assert!(rt; sink.write(b"3") == Ok(1));
+    assert!(rt; sink.write(b"4") == Err(Failed));
+    assert!(rt; sink.into_inner().room == 0);
+}
+
+#[test]
+fn a_last_flush_may_fail(rt: HostRuntime) -> Result<(), Fail> {
+    for (room, flushes) in [(3, true), (2, true), (3, false)] {
+        let slow = Slow {
+            piece: 2,
+            room,
+            flushes,
+        };
+        let mut sink = StdSink::new(BufWriter::with_capacity(rt.alloc(), 8, slow)?);
+        assert!(rt; sink.write(b"123") == Ok(3));
+        let (slow, flushed) = sink.finish();
+        assert!(rt; slow.room == 0);
+        assert!(rt; flushed.is_ok() == (room == 3 && flushes));
+    }
+    Ok(())
 }
 
 #[test]

@@ -17,7 +17,7 @@ returns-in-Ok-clause-due g c =
     let w = way_by (operation_moves x) (operation_course x) [] in
     let start = moment (marking_of c.args.net.now) c.args.net.now.control in
     told_after (sizes_text c.args.sample.number c.args.sample.bytes found.flow found.edge_classes.items found.tree x)
-    (AreBothOf w start c.args.sample.limit (program_of c.args.run.now.stepper))
+    (AreBothOf w start c.args.sample.limit (program_of c.args.run.now))
     (g.K.Sink.got c.args.sink.now) (g.K.Sink.got c.tell_sizes.new.sink) (g.K.Sink.got c.tell_both.new.sink) c.tell_both.result
     c.in-Ok.ensures.all c.tell_both.ensures.memory c.tell_both.ensures.reads c.tell_both.ensures.due
 
@@ -28,7 +28,7 @@ returns-in-Err-clause-due g c =
     let w = way_by (operation_moves x) (operation_course x) [] in
     let start = moment (marking_of c.args.net.now) c.args.net.now.control in
     let limit = c.args.sample.limit in
-    let form = program_of c.args.run.now.stepper in
+    let form = program_of c.args.run.now in
     let order = c.runs_end.ensures.order x start limit c.requires.sound c.requires.in_step c.requires.control in
     let has = has_end (operation_moves x) (operation_course x) start limit order (λ picks. c.runs_end.ensures.picks x picks start limit) [] in
     let both = has_both w start limit form has in

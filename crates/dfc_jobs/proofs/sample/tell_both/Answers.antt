@@ -15,7 +15,7 @@ returns-in-Done-clause-due g c =
     let x = net_of c.args.net.now in
     let w = way_by (operation_moves x) (operation_course x) [] in
     let start = moment (marking_of c.args.net.now) c.args.net.now.control in
-    let form = program_of c.args.run.now.stepper in
+    let form = program_of c.args.run.now in
     let limit = c.args.limit in
     let old = g.K.Sink.got c.args.sink.now in
     let mid = g.K.Sink.got c.tell_game.new.sink in
@@ -29,4 +29,4 @@ returns-in_default-clause-due g c =
     let x = net_of c.args.net.now in
     let w = way_by (operation_moves x) (operation_course x) [] in
     let start = moment (marking_of c.args.net.now) c.args.net.now.control in
-    first_told w start c.args.limit (program_of c.args.run.now.stepper) (g.K.Sink.got c.args.sink.now) (g.K.Sink.got c.tell_game.new.sink) c.tell_game.result c.in_default.not-Done c.tell_game.ensures.due
+    first_told w start c.args.limit (program_of c.args.run.now) (g.K.Sink.got c.args.sink.now) (g.K.Sink.got c.tell_game.new.sink) c.tell_game.result c.in_default.not-Done c.tell_game.ensures.due

@@ -37,7 +37,7 @@ returns-in-Ok-clause-due g c =
     (found_ranges p found c.requires.analysis)
     c.requires.analysis.rows made.is_net made.outside_pieces made.outside_operations in
     let s = c.args.sample in
-    let form = program_of c.args.run.now.stepper in
+    let form = program_of c.args.run.now in
     answers_more
     (IsAfter (sizes_text s.number s.bytes found.flow found.edge_classes.items found.tree x) (AreBothOf (way_by (operation_moves x) (operation_course x) []) (moment (marking_of c.in-Ok.net) c.in-Ok.net.control) s.limit form))
     (IsSampleDue s.number s.bytes s.limit p) (g.K.Sink.got c.args.sink.now) (g.K.Sink.got c.tell_all.new.sink) c.tell_all.result
