@@ -1,8 +1,8 @@
 -- The names of a copy are those that are told.
-use Rattle.std.proofs.Common.{◌≡◌, ℕ, ◌+◌, ◌<◌, ◌≤◌, Bool, true, false, cond, if◌then◌else◌, List, length, nat_lt, Option, Some, None, refl, ap, ◌∙◌, arith}
+use Rattle.std.proofs.Common.{◌≡◌, ℕ, ◌+◌, ◌<◌, ◌≤◌, ◌^◌, Bool, true, false, cond, if◌then◌else◌, List, length, nat_lt, Option, Some, None, refl, ap, ◌∙◌, arith}
 use Rattle.std.specs.Prelude.{bytes_eq}
 use Rattle.std.specs.List.{position_or_len, slice_get}
-use Rattle.std.proofs.lemmas.Bool.{ltb-false, ne_eqb}
+use Rattle.std.proofs.lemmas.Bool.{ltb-false, ltb-true, ne_eqb}
 use Rattle.std.proofs.lemmas.Option.{slice_get_past}
 use Rattle.f77_tree.specs.declared.statements.Labelled.{Labelled}
 use Rattle.f77_subs.specs.Copies.{change_in}
@@ -10,8 +10,32 @@ use Rattle.f77_subs.specs.Entities.{entity_at, entity_of, stands_for}
 use Rattle.f77_subs.specs.declared.entity.Entity.{Entity}
 use Rattle.f77_subs.specs.Names.{name_for}
 use Rattle.f77_subs.specs.Units.{dummies_of, unit_at}
-use Rattle.copied_names.specs.CopiedNames.{becomes, becomes_by}
+use Rattle.f77_subs.specs.UnitTables.{new_name}
+use Rattle.f77_subs.specs.declared.unit_table.NewName.TheVariants.{Argument as Place, Fixed}
+use Rattle.copied_names.specs.CopiedNames.{HasNextPlace, becomes, becomes_as, becomes_by}
 use Rattle.copied_names.specs.declared.copied.Becomes.TheVariants.{Argument, Named}
+
+-- what a name becomes is what is told of it
+pub becomes-is : (us : List (List Labelled)) (k : ℕ) (x : List ℕ) → becomes_as (new_name us k x) ≡ becomes us k x
+becomes-is us k x = by (nat_lt (position_or_len (bytes_eq x) (dummies_of (unit_at us k))) (length (dummies_of (unit_at us k))))
+  where
+    place : ℕ
+    place = position_or_len (bytes_eq x) (dummies_of (unit_at us k))
+
+    by : (b : Bool) → becomes_as (if b then Place place else Fixed (name_for us (entity_of us k x))) ≡ becomes_by us k x (cond b (Some place) None)
+    by true = refl
+    by false = refl
+
+-- the place of a dummy has a next one
+pub next-place : (us : List (List Labelled)) (k : ℕ) (x : List ℕ) → length (dummies_of (unit_at us k)) < 2 ^ 32 → HasNextPlace (new_name us k x)
+next-place us k x few = by (nat_lt place (length (dummies_of (unit_at us k)))) refl
+  where
+    place : ℕ
+    place = position_or_len (bytes_eq x) (dummies_of (unit_at us k))
+
+    by : (b : Bool) → nat_lt place (length (dummies_of (unit_at us k))) ≡ b → HasNextPlace (if b then Place place else Fixed (name_for us (entity_of us k x)))
+    by true is = let below = ltb-true place (length (dummies_of (unit_at us k))) is in omega (arith, below, few)
+    by false is = tt
 
 module _ (us : List (List Labelled)) (depth k base : ℕ) (arguments : List Entity) (x : List ℕ) (copied : 0 < k) where
   abbrev changed_name : List ℕ

@@ -1,10 +1,4 @@
+mod Accepted
 mod ChangedNames
 mod CopiedLists
-mod EntityKeys
-mod EntityNames
-mod FreeTexts
-mod OwnNames
-mod Places
-mod ReadUnits
-mod UnitNames
 mod WrittenLists

@@ -1,10 +1,12 @@
 -- What the names of subroutines become in the expansion.
-use Rattle.std.specs.Prelude.{◌≡◌, ℕ, ◌+◌, ◌-◌, List, [], ◌∷◌, map, flat_map, length, Option, Some, None, bytes_eq}
+use Rattle.std.specs.Prelude.{◌≡◌, ℕ, ◌+◌, ◌-◌, ◌^◌, ◌<◌, List, [], ◌∷◌, map, flat_map, length, Option, Some, None, bytes_eq}
 use Rattle.std.specs.List.{position, range_with_len}
 use Rattle.f77_tree.specs.declared.statements.Labelled.{Labelled}
+use Rattle.f77_subs.specs.declared.unit_table.NewName.{NewName}
+use Rattle.f77_subs.specs.declared.unit_table.NewName.TheVariants.{Argument as Place, Fixed}
 use Rattle.f77_subs.specs.Entities.{entity_of}
 use Rattle.f77_subs.specs.Names.{name_for, names_of_unit}
-use Rattle.f77_subs.specs.Units.{dummies_of, sub_name, unit_at, units}
+use Rattle.f77_subs.specs.Units.{dummies_of, sub_dummies, sub_name, unit_at, units}
 use Rattle.f77_source.specs.Reading.{HasStatements}
 use Rattle.copied_names.specs.declared.copied.Becomes.{Becomes}
 use Rattle.copied_names.specs.declared.copied.Becomes.TheVariants.{Argument, Named}
@@ -14,6 +16,25 @@ use Rattle.copied_names.specs.declared.copied.CopiedName.{CopiedName}
 abbrev pub subroutine : List Labelled → Option (List ℕ)
 subroutine [] = None
 subroutine (s ∷ rest) = sub_name s.stmt
+
+-- the dummies in the statement that a unit begins with
+abbrev pub first_dummies : List Labelled → List (List ℕ)
+first_dummies [] = []
+first_dummies (s ∷ rest) = sub_dummies s.stmt
+
+-- no other statement of a subroutine has dummies
+abbrev pub HaveDummiesFirst : List (List Labelled) → Type 0
+HaveDummiesFirst us = (k : ℕ) → 0 < k → k < length us → dummies_of (unit_at us k) ≡ first_dummies (unit_at us k)
+
+-- the place of an argument, counted from 1, is a word of the machine
+abbrev pub HasNextPlace : NewName → Type 0
+HasNextPlace (Place place) = place + 1 < 2 ^ 64
+HasNextPlace (Fixed name) = Unit {0}
+
+-- what a name becomes in each copy, with places counted from 1
+abbrev pub becomes_as : NewName → Becomes
+becomes_as (Place place) = Argument (place + 1)
+becomes_as (Fixed name) = Named name
 
 -- A dummy becomes the argument at its place, counted from 1. Another name becomes that of what it stands for.
 abbrev pub becomes_by : List (List Labelled) → (k : ℕ) → List ℕ → Option ℕ → Becomes

@@ -1,18 +1,17 @@
 //! What the names of subroutines become in the expansion of a text.
-ghost use Rattle.std.specs.Prelude.{◌≡◌, ◌+◌, ◌<◌, ◌^◌, ◌++◌, Err, IfErr, IfOk, OnOk, Some, length};
+ghost use Rattle.std.specs.Prelude.{◌≡◌, ◌+◌, ◌<◌, ◌^◌, ◌++◌, Err, IfErr, IfOk, OnOk, Some, false, length, option_copied};
 ghost use Rattle.f77_source.specs.declared.source_end.Refusal.{Refusal};
 ghost use Rattle.f77_source.specs.declared.source_end.SourceEnd.TheVariants.{Refused};
 ghost use Rattle.f77_source.specs.Reading.{reading};
-ghost use Rattle.f77_subs.specs.Units.{units};
-ghost use Rattle.copied_names.specs.CopiedNames.{AreNamesOf, copied_names as copied_names_of, names_by, names_in_copies};
-ghost use Rattle.copied_names.specs.UnitLists.{statements as statements_read};
+ghost use Rattle.f77_subs.specs.NamedEntities.{AreAllNamed};
+ghost use Rattle.f77_subs.specs.Refusals.{has_great_name};
+ghost use Rattle.f77_subs.specs.Units.{dummies_of, sub_name as sub_name_of, unit_at, units};
+ghost use Rattle.copied_names.specs.CopiedNames.{AreNamesOf, becomes_as, copied_names as copied_names_of, first_dummies, HasNextPlace, HaveDummiesFirst, names_by, names_in_copies, subroutine as subroutine_of};
 
-use crate::statements::parsed;
-use crate::text::Text;
 use df_sequence::{Copied, NoMemory};
-use f77_source::{SourceEnd, read_program};
-use f77_tree::{Labelled, Name};
-use fixed_form::statements;
+use f77_source::{SourceEnd, read_program, read_statements};
+use f77_subs::{NewName, NewNames, TextEntities, Units};
+use f77_tree::{Labelled, Name, Stmt};
 use std::alloc::Global;
 
 /// What a name of a subroutine becomes in its copies.
@@ -52,25 +51,25 @@ pub fn copied_names(
     ensures names { IfOk result (λ names. AreNamesOf bytes.now names.items) }
     ensures refused { IfErr result (λ end. (refusal : Refusal) → end ≡ Refused refusal → reading bytes.now checked ≡ Err refusal) }
 {
-    if let Err(end) = read_program(alloc, bytes, checked) {
-        return Err(end);
-    }
-    let Ok(raws) = statements(alloc, bytes) else {
-        return Err(SourceEnd::NoMemory);
-    };
-    let stmts = parsed(alloc, &raws)?;
+    let _ = read_program(alloc, bytes, checked)?;
+    let stmts = read_statements(alloc, bytes)?;
     let names = names_of_text(alloc, stmts.as_slice())?;
     Ok(names)
 }
 
 // What the names of the subroutines of these statements become.
 fn names_of_text(alloc: Global, stmts: &[Labelled]) -> Result<Vec<CopiedName>, NoMemory>
+    requires named { AreAllNamed (units stmts.now) }
+    requires small { has_great_name (units stmts.now) ≡ false }
+    requires first { HaveDummiesFirst (units stmts.now) }
     ensures { IfOk result (λ names. names.items ≡ copied_names_of (units stmts.now)) }
 {
-    let text = Text::of(alloc, stmts)?;
+    let units = Units::of(alloc, stmts)?;
+    let text = TextEntities::of(alloc, &units)?;
+    let new = NewNames::of(alloc, &text)?;
     let mut names = Vec::new(alloc);
-    for k in 1..text.units.len() {
-        add_unit(alloc, &mut names, &text, k)?;
+    for k in 1..units.len() {
+        add_unit(alloc, &mut names, &new, k)?;
     }
     Ok(names)
 }
@@ -79,16 +78,50 @@ fn names_of_text(alloc: Global, stmts: &[Labelled]) -> Result<Vec<CopiedName>, N
 fn add_unit(
     alloc: Global,
     names: &mut Vec<CopiedName>,
-    text: &Text,
+    new: &NewNames,
     k: usize,
 ) -> Result<(), NoMemory>
-    requires { k < length text.now.units.items }
-    ensures { OnOk result (names.new.items ≡ names.old.items ++ names_in_copies (statements_read text.now.units.items) k) }
+    requires sub { 0 < k }
+    requires unit { k < length new.now.text.now.us.now }
+    requires first { HaveDummiesFirst new.now.text.now.us.now }
+    ensures { OnOk result (names.new.items ≡ names.old.items ++ names_in_copies new.now.text.now.us.now k) }
 {
-    let unit = &text.units[k];
-    match unit.subroutine() {
-        Some(subroutine) => add_names_of(alloc, names, text, k, subroutine),
+    let unit = new.text.us.at(k);
+    few_dummies(unit);
+    match subroutine(unit) {
+        Some(subroutine) => add_names_of(alloc, names, new, k, subroutine),
         None => Ok(()),
+    }
+}
+
+// The name of a subroutine, whose first statement is SUBROUTINE.
+fn subroutine(unit: &[Labelled]) -> Option<&Name>
+    ensures { option_copied result ≡ subroutine_of unit.now }
+{
+    match unit.first() {
+        Some(s) => sub_name(&s.stmt),
+        None => None,
+    }
+}
+
+// The dummies of one statement are a list, which has fewer than 2^32 items.
+fn few_dummies(unit: &[Labelled])
+    ensures { length (first_dummies unit.now) < 2 ^ 32 }
+{
+    if let Some(s) = unit.first() {
+        if let Stmt::Sub(_, dummies) = &s.stmt {
+            dummies.len();
+        }
+    }
+}
+
+// The name in a SUBROUTINE statement.
+fn sub_name(stmt: &Stmt) -> Option<&Name>
+    ensures { option_copied result ≡ sub_name_of stmt.now }
+{
+    match stmt {
+        Stmt::Sub(name, _) => Some(name),
+        _ => None,
     }
 }
 
@@ -96,21 +129,34 @@ fn add_unit(
 fn add_names_of(
     alloc: Global,
     names: &mut Vec<CopiedName>,
-    text: &Text,
+    new: &NewNames,
     k: usize,
     subroutine: &Name,
 ) -> Result<(), NoMemory>
-    requires { k < length text.now.units.items }
-    ensures { OnOk result (names.new.items ≡ names.old.items ++ names_by (statements_read text.now.units.items) k (Some subroutine.now)) }
+    requires sub { 0 < k }
+    requires unit { k < length new.now.text.now.us.now }
+    requires few { length (dummies_of (unit_at new.now.text.now.us.now k)) < 2 ^ 32 }
+    ensures { OnOk result (names.new.items ≡ names.old.items ++ names_by new.now.text.now.us.now k (Some subroutine.now)) }
 {
-    let unit = &text.units[k];
-    for i in 0..unit.names.len() {
-        let name = unit.names.name(i);
+    let all = new.names(k);
+    for i in 0..all.len() {
+        let name = all.name(i);
         names.push(CopiedName {
             unit: subroutine.copy(alloc)?,
             name: name.copy(alloc)?,
-            becomes: text.becomes(alloc, k, name)?,
+            becomes: told(new.new_name(alloc, k, name)?),
         })?;
     }
     Ok(())
+}
+
+// The same, with places that are counted from 1.
+fn told(new: NewName) -> Becomes
+    requires { HasNextPlace new }
+    ensures { result ≡ becomes_as new }
+{
+    match new {
+        NewName::Argument(place) => Becomes::Argument(place + 1),
+        NewName::Fixed(name) => Becomes::Named(name),
+    }
 }

@@ -2,18 +2,8 @@
 //! blocks in the main program, and arguments (ANSI X3.9-1978, sections 8.3 and 15.9.3).
 #![tactic(auto)]
 
-mod block_lists;
 mod copied;
-mod entities;
-mod free_names;
 mod laws;
-mod lists;
-mod own_entities;
-mod reading;
-mod statements;
-mod text;
-mod unit;
-mod units;
 mod written;
 
 pub use copied::{Becomes, CopiedName, copied_names};

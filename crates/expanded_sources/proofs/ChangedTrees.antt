@@ -28,7 +28,7 @@ use Rattle.expanded_sources.proofs.HeldPieces.{IsInUnit}
 use Rattle.expanded_sources.proofs.Labelling.{HasLabels}
 use Rattle.expanded_sources.proofs.ReadRows.{parted}
 use Rattle.expanded_sources.proofs.SymbolicTexts.{all-members}
-use Rattle.expanded_sources.proofs.UnitNames.{appears}
+use Rattle.f77_subs.proofs.UnitNames.{appears}
 
 -- ---- the names of what stands in for a statement are names of it
 

@@ -29,7 +29,7 @@ use Rattle.expanded_sources.proofs.ChangedStatements.{positive}
 use Rattle.expanded_sources.proofs.HeldPieces.{IsInUnit}
 use Rattle.expanded_sources.proofs.NewNames.{own-name}
 use Rattle.expanded_sources.proofs.SymbolicTexts.{all-members, member-passes, names-named}
-use Rattle.expanded_sources.proofs.UnitNames.{appears, own-of}
+use Rattle.f77_subs.proofs.UnitNames.{appears, own-of}
 
 -- ---- lists
 

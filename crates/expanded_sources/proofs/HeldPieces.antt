@@ -1,4 +1,5 @@
 -- What holds of each statement of the list of a text, piece by piece.
+pub use Rattle.f77_subs.proofs.UnitNames.{IsInUnit}
 use Rattle.std.proofs.Common.{◌≡◌, ℕ, zero, suc, ◌+◌, Bool, true, false, List, [], ◌∷◌, ◌++◌, map, flat_map, take, drop, length, Option, Some, None, if◌then◌else◌, refl, sym, ap, subst, ◌∙◌, arith}
 use Rattle.std.specs.List.{list_all, slice_get}
 use Rattle.std.proofs.lemmas.Bool.{and_parts}
@@ -15,11 +16,6 @@ use Rattle.f77_subs.specs.Units.{Call, call_in, guard_of, unit_at, unit_of}
 use Rattle.f77_subs.specs.Widths.{body_labels, is_kept, labels, labels_before}
 use Rattle.f77_subs.proofs.Having.{get-drop, get-front, sum-next}
 use Rattle.f77_subs.proofs.UnitSources.{Each}
-
--- a statement of the unit k
-pub record IsInUnit (us : List (List Labelled)) (k : ℕ) (s : Labelled) : Type 0 where
-  pub place : ℕ
-  pub here : slice_get (unit_at us k) place ≡ Some s
 
 module _ (Q : Stmt → Type 0) where
   abbrev pub Whole : List Labelled → Type 0

@@ -3,10 +3,6 @@ mod ListedSources
 mod PlainPieces
 mod Labelling
 mod ContextLabels
-mod UnitNames
-mod StoredOwn
-mod BlockPlaces
-mod CommonOnce
 mod UnitDeclarations
 mod ReadRows
 mod ChangedExpressions

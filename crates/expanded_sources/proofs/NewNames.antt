@@ -26,7 +26,8 @@ use Rattle.f77_subs.proofs.ReachedUnits.{first-inside}
 use Rattle.f77_subs.proofs.SettledCopies.{pass_at}
 use Rattle.f77_subs.proofs.ShortNames.{none-passes, numbered-short, taken-at}
 use Rattle.f77_subs.proofs.TextNames.{text-short}
-use Rattle.expanded_sources.proofs.SymbolicTexts.{block-named, each-unit, y-text-named}
+use Rattle.f77_subs.proofs.NumberedNames.{y-text-named}
+use Rattle.expanded_sources.proofs.SymbolicTexts.{block-named, each-unit}
 
 not-great : (us : List (List Labelled)) (great : Bool) → main_line_if us great ≡ None → great ≡ false
 not-great us true none = absurd cc

@@ -1,41 +1,36 @@
 -- The names of what is put in are symbolic.
-use Rattle.std.proofs.Common.{◌≡◌, ℕ, zero, suc, ◌+◌, ◌<◌, ◌≤◌, Bool, true, false, not, ◌||◌, cond, List, [], ◌∷◌, ◌++◌, length, map, flat_map, filter, get_or, Option, Some, None, if◌then◌else◌, refl, sym, ap, subst, ◌∙◌, arith}
+use Rattle.std.proofs.Common.{◌≡◌, ℕ, zero, suc, ◌+◌, ◌<◌, ◌≤◌, Bool, true, List, [], ◌∷◌, ◌++◌, length, map, flat_map, get_or, Option, Some, None, refl, ap, subst, ◌∙◌, arith}
 use Rattle.std.specs.Prelude.{bytes_eq}
 use Rattle.std.specs.Cmp.Lexicographic.{nat_list_eq_equiv}
-use Rattle.std.specs.List.{list_all, list_any, position_or_len, range_with_len, slice_get}
-use Rattle.std.proofs.lemmas.Bool.{and_from, and_parts, lt-ltb, or_left, or_right}
-use Rattle.std.proofs.lemmas.List.Concat.{flat_map-append}
-use Rattle.std.proofs.lemmas.List.Folds.{list_all-append, list_any-append}
+use Rattle.std.specs.List.{list_all, list_any, range_with_len, slice_get}
+use Rattle.std.proofs.lemmas.Bool.{and_from, or_left, or_right}
+use Rattle.std.proofs.lemmas.List.Folds.{list_all-append}
 use Rattle.std.proofs.lemmas.Option.{slice_get-get_or}
 use Rattle.f77_tree.specs.Name.{is_name}
-use Rattle.f77_tree.specs.declared.declarations.CommonPart.{CommonPart}
 use Rattle.f77_tree.specs.declared.declarations.InitPart.{InitPart}
 use Rattle.f77_tree.specs.declared.declarations.Member.{Member}
 use Rattle.f77_tree.specs.declared.statements.Labelled.{Labelled}
-use Rattle.f77_tree.specs.declared.statements.Stmt.{Stmt}
-use Rattle.f77_tree.specs.declared.statements.Stmt.TheVariants.{Common}
 use Rattle.layout_rules.specs.Appearances.{appearing}
-use Rattle.layout_rules.specs.Declarations.{all_commons, is_array, parts_of}
+use Rattle.layout_rules.specs.Declarations.{all_commons, is_array}
 use Rattle.f77_subs.specs.declared.entity.Entity.{Entity}
 use Rattle.f77_subs.specs.declared.entity.Entity.TheVariants.{InBlock}
 use Rattle.f77_subs.specs.Entities.{block_list, entity_of}
-use Rattle.f77_subs.specs.Expansion.{block_size, common_decl, init_for, members_for, units_but_main}
-use Rattle.f77_subs.specs.Names.{appearing_here, has_block, name_for}
-use Rattle.f77_subs.specs.PutIn.{first_with_block, is_put_in, is_run_block}
+use Rattle.f77_subs.specs.Expansion.{block_size, common_decl, init_for, members_for}
+use Rattle.f77_subs.specs.Names.{appearing_here, name_for}
 use Rattle.f77_subs.specs.Refusals.{is_of_storage, unit_refusal}
 use Rattle.f77_subs.specs.Texts.{IsText}
-use Rattle.f77_subs.specs.Units.{unit_at, unit_or_none, units}
+use Rattle.f77_subs.specs.Units.{unit_at, units}
 use Rattle.f77_subs.proofs.FirstBlocks.{size-first}
-use Rattle.f77_subs.proofs.MainNames.{decl_names}
-use Rattle.f77_subs.proofs.ManyBlocks.{is-first}
-use Rattle.f77_subs.proofs.ReachedUnits.{first-inside}
 use Rattle.f77_subs.proofs.UsedNames.{Among, behind, in-front}
-use Rattle.expanded_sources.proofs.BlockPlaces.{among-at, block-place, own-among}
-use Rattle.expanded_sources.proofs.CommonOnce.{common-once}
+use Rattle.f77_subs.proofs.BlockPlaces.{among-at, block-place, own-among}
+use Rattle.f77_subs.proofs.CommonOnce.{common-once}
+use Rattle.f77_subs.proofs.FirstUnits.{HasFirst}
+use Rattle.f77_subs.proofs.NamedEntities.{common-appears, common-at}
+use Rattle.f77_subs.proofs.NoAnswer.{form-none}
 use Rattle.expanded_sources.proofs.HeldPieces.{IsInUnit}
 use Rattle.expanded_sources.proofs.NewNames.{own-name}
-use Rattle.expanded_sources.proofs.StoredOwn.{stored-own}
-use Rattle.expanded_sources.proofs.UnitNames.{appears, own-of}
+use Rattle.f77_subs.proofs.StoredOwn.{stored-own}
+use Rattle.f77_subs.proofs.UnitNames.{appears, own-of}
 
 -- ---- names of members
 
@@ -76,96 +71,6 @@ module _ (us : List (List Labelled)) (k : ℕ) where
       (members-named part.items (λ x among. named x (in-front x (part_names part) (flat_map part_names parts) among)))
       (inits-named parts (λ x among. named x (behind x (part_names part) (flat_map part_names parts) among)))
 
--- ---- the first unit with a block
-
-any-at : {X : Type 0} (p : X → Bool) (xs : List X) (j : ℕ) (x : X) → slice_get xs j ≡ Some x → p x ≡ true → list_any p xs ≡ true
-any-at p [] j x here passes = let e : None ≡ Some x = here in absurd cc
-any-at p (y ∷ ys) zero x here passes = let e : Some y ≡ Some x = here in let same : y ≡ x = cc in or_left (p y) (list_any p ys) (ap p same ∙ passes)
-any-at p (y ∷ ys) (suc j) x here passes = or_right (p y) (list_any p ys) (any-at p ys j x here passes)
-
-first-passes : {X : Type 0} (p : X → Bool) (xs : List X) (y : X) (ys : List X) → filter p xs ≡ y ∷ ys → p y ≡ true
-first-passes p [] y ys is = absurd cc
-first-passes p (x ∷ xs) y ys is = by (p x) refl is (first-passes p xs y ys)
-  where
-    by : (b : Bool) → p x ≡ b → cond b (x ∷ filter p xs) (filter p xs) ≡ y ∷ ys → (filter p xs ≡ y ∷ ys → p y ≡ true) → p y ≡ true
-    by true passes e later = let same : x ≡ y = cc in ap p (sym same) ∙ passes
-    by false fails e later = later e
-
--- a unit that has a block, and no unit before it has
-pub record HasFirst (us : List (List Labelled)) (block : Option (List ℕ)) : Type 0 where
-  pub unit : ℕ
-  pub is : first_with_block us block ≡ Some unit
-  pub inside : unit < length us
-  pub has : has_block (unit_at us unit) block ≡ true
-  pub behind_main : 0 < unit
-
-module _ (us : List (List Labelled)) (block : Option (List ℕ)) where
-  abbrev has : List Labelled → Bool
-  has u = has_block u block
-
-  unit-has : (k : ℕ) → has (unit_at us k) ≡ true → list_any has us ≡ true
-  unit-has k is = by (slice_get us k) refl is
-    where
-      by : (o : Option (List Labelled)) → slice_get us k ≡ o → has (unit_or_none o) ≡ true → list_any has us ≡ true
-      by None at it = let e : false ≡ true = it in absurd cc
-      by (Some u) at it = any-at has us k u at it
-
-  some-has : (ks : List ℕ) → list_any (λ k. has (unit_at us k)) ks ≡ true → list_any has us ≡ true
-  some-has [] any = let e : false ≡ true = any in absurd cc
-  some-has (k ∷ ks) any = by (has (unit_at us k)) refl any (some-has ks)
-    where
-      by : (b : Bool) → has (unit_at us k) ≡ b → (b || list_any (λ k. has (unit_at us k)) ks) ≡ true → (list_any (λ k. has (unit_at us k)) ks ≡ true → list_any has us ≡ true) → list_any has us ≡ true
-      by true is it later = unit-has k is
-      by false is it later = later it
-
-  above-main : (k : ℕ) → not (has (unit_at us 0)) ≡ true → has (unit_at us k) ≡ true → 0 < k
-  above-main zero lacks is = let e : false ≡ true = sym (ap not is) ∙ lacks in absurd cc
-  above-main (suc k) lacks is = omega arith
-
-  pub first-unit : is_put_in us block ≡ true → HasFirst us block
-  first-unit put =
-      let parts = and_parts (not (has (unit_at us 0))) (is_run_block us block) put in
-      let k : ℕ = position_or_len has us in
-      let inside : k < length us = first-inside has us (some-has (units_but_main us) parts.1) in
-      let is : first_with_block us block ≡ Some k = ap (λ (b : Bool). if b then Some k else None) (lt-ltb k (length us) inside) in
-      let first = is-first block us k is in
-      let it : has (unit_at us k) ≡ true = first-passes has us (unit_at us k) first.rest first.kept in
-      record { unit = k; is = is; inside = inside; has = it; behind_main = above-main k parts.0 it }
-
--- ---- a name of COMMON stands in a statement
-
-abbrev names_in_part : CommonPart → List (List ℕ)
-names_in_part part = decl_names part.decls
-
-record StandsAt (x : List ℕ) (stmts : List Labelled) : Type 0 where
-  place : ℕ
-  s : Labelled
-  here : slice_get stmts place ≡ Some s
-  among : Among x (flat_map names_in_part (parts_of s.stmt))
-
-common-at : (x : List ℕ) (stmts : List Labelled) → Among x (flat_map names_in_part (all_commons stmts)) → StandsAt x stmts
-common-at x [] among = let e : false ≡ true = among in absurd cc
-common-at x (s ∷ rest) among = by (list_any (bytes_eq x) own) refl (sym (list_any-append (bytes_eq x) own back) ∙ ap (list_any (bytes_eq x)) (sym (flat_map-append names_in_part (parts_of s.stmt) (all_commons rest))) ∙ among) (common-at x rest)
-  where
-    own : List (List ℕ)
-    own = flat_map names_in_part (parts_of s.stmt)
-
-    back : List (List ℕ)
-    back = flat_map names_in_part (all_commons rest)
-
-    by : (b : Bool) → list_any (bytes_eq x) own ≡ b → (b || list_any (bytes_eq x) back) ≡ true → (Among x back → StandsAt x rest) → StandsAt x (s ∷ rest)
-    by true is any later = record { place = 0; s = s; here = refl; among = is }
-    by false is any later = let more = later any in record { place = suc more.place; s = more.s; here = more.here; among = more.among }
-
-record IsStored (arrays : List ℕ → Bool) (x : List ℕ) (stmt : Stmt) : Type 0 where
-  stores : is_of_storage stmt ≡ true
-  among : Among x (appearing arrays stmt)
-  same : appearing_here arrays stmt ≡ appearing arrays stmt
-
-common-appears : (arrays : List ℕ → Bool) (x : List ℕ) (stmt : Stmt) → Among x (flat_map names_in_part (parts_of stmt)) → IsStored arrays x stmt
-common-appears arrays x (Common parts) among = record { stores = refl; among = among; same = refl }
-common-appears arrays x _ among = let e : false ≡ true = among in absurd cc
-
 -- ---- a text that nothing refuses
 
 module _ (stmts : List Labelled) (checked : Bool) (text : IsText stmts) (accepted : unit_refusal stmts checked ≡ None) where
@@ -177,7 +82,7 @@ module _ (stmts : List Labelled) (checked : Bool) (text : IsText stmts) (accepte
       → AreNamed all k (appearing (is_array (unit_at all k)) s.stmt)
   stored-named k s some inside here is same x among =
       own-name stmts checked text accepted k x some inside
-      (own-of all k x (appears all k s here x (ap (list_any (bytes_eq x)) same ∙ among)) (stored-own stmts checked accepted k s here is x among))
+      (own-of all k x (appears all k s here x (ap (list_any (bytes_eq x)) same ∙ among)) (stored-own stmts checked (form-none stmts checked accepted) k s here is x among))
 
   -- names of COMMON
   block-named : (k : ℕ) (block : Option (List ℕ)) (place : ℕ) (x : List ℕ) → 0 < k → k < length all → slice_get (block_list (unit_at all k) block) place ≡ Some x → is_name (name_for all (InBlock block place)) ≡ true
@@ -186,7 +91,7 @@ module _ (stmts : List Labelled) (checked : Bool) (text : IsText stmts) (accepte
       let there = common-at x u (own-among block x (all_commons u) (among-at (block_list u block) place x here)) in
       let here_too = common-appears (is_array u) x there.s.stmt there.among in
       let named : is_name (name_for all (entity_of all k x)) ≡ true = stored-named k there.s some inside (record { place = there.place; here = there.here }) here_too.stores here_too.same x here_too.among in
-      subst (λ (e : Entity). is_name (name_for all e) ≡ true) (block-place all k (common-once stmts checked accepted k) block place x here) named
+      subst (λ (e : Entity). is_name (name_for all e) ≡ true) (block-place all k (common-once stmts checked (form-none stmts checked accepted) k) block place x here) named
 
   -- those from a place on
   places-named : (k : ℕ) (block : Option (List ℕ)) → 0 < k → k < length all → (from count : ℕ) → from + count ≤ length (block_list (unit_at all k) block) → list_all is_name (map (λ decl. decl.name) (map (common_decl all block) (range_with_len from count))) ≡ true

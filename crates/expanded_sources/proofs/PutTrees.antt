@@ -32,7 +32,8 @@ use Rattle.f77_subs.proofs.FirstBlocks.{size-first}
 use Rattle.f77_subs.proofs.PutInDeclared.{running-listed}
 use Rattle.expanded_sources.proofs.HeldPieces.{IsInUnit, Whole, whole-append, whole-flat-all, whole-flat-each, whole-map-all}
 use Rattle.expanded_sources.proofs.NewNames.{entity-name}
-use Rattle.expanded_sources.proofs.PutNames.{common-named, first-unit, groups-named, inits-named, stored-named}
+use Rattle.f77_subs.proofs.FirstUnits.{first-unit}
+use Rattle.expanded_sources.proofs.PutNames.{common-named, groups-named, inits-named, stored-named}
 use Rattle.expanded_sources.proofs.UnitDeclarations.{block-read, declared-dims, no-dims, unit-declares}
 
 -- ---- lists

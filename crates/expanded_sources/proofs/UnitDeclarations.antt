@@ -26,7 +26,7 @@ use Rattle.f77_subs.proofs.MainNames.{decl_names, names_of_block}
 use Rattle.f77_subs.proofs.ManyBlocks.{is-first, no-first}
 use Rattle.f77_subs.proofs.OwnNames.{blocks-same}
 use Rattle.f77_subs.proofs.UnitSources.{all-of, text-unit}
-use Rattle.expanded_sources.proofs.BlockPlaces.{of-own}
+use Rattle.f77_subs.proofs.BlockPlaces.{of-own}
 use Rattle.expanded_sources.proofs.HeldPieces.{IsInUnit}
 
 -- ---- dimensions

@@ -54,6 +54,14 @@ abbrev pub statements_of : List RawStmt → Result (List Labelled) Refusal
 statements_of [] = Ok []
 statements_of (raw ∷ more) = statement_before (reading_of raw) (statements_of more)
 
+abbrev pub statements_in : Result (List RawStmt) FormEnd → Result (List Labelled) Refusal
+statements_in (Ok raws) = statements_of raws
+statements_in (Err end) = Err (form_refusal end)
+
+-- the statements of the text
+abbrev pub statements_read : (bytes : List ℕ) → Result (List Labelled) Refusal
+statements_read bytes = statements_in (lines.reading bytes)
+
 -- ---- programs
 
 -- the refusal of statements; that of a layout never comes to the last row

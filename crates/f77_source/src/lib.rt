@@ -5,5 +5,5 @@ mod listed;
 mod program;
 mod source_end;
 
-pub use program::read_program;
+pub use program::{read_program, read_statements};
 pub use source_end::{Code, Refusal, SourceEnd};

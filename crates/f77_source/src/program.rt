@@ -8,7 +8,7 @@ ghost use Rattle.layout_rules.specs.Source.{IsSource};
 ghost use Rattle.f77_subs.specs.Texts.{IsText};
 ghost use Rattle.f77_source.specs.Accepted.{IsAccepted};
 ghost use Rattle.f77_source.specs.Answers.{IsReadAs, told_form, told_stmt, told_sub, told_layout};
-ghost use Rattle.f77_source.specs.Reading.{IsProgramFrom, IsProgramOf, reading, statements_of, most_classes, program_of as program_of_statements, program_from as program_from_list};
+ghost use Rattle.f77_source.specs.Reading.{IsProgramFrom, IsProgramOf, reading, statements_of, statements_read, most_classes, program_of as program_of_statements, program_from as program_from_list};
 
 use crate::listed::listed;
 use crate::{Code, Refusal, SourceEnd};
@@ -40,6 +40,23 @@ pub fn read_program(alloc: Global, bytes: &[u8], checked: bool) -> Result<Progra
     match statements(alloc, bytes) {
         Err(end) => Err(form_refused(end)),
         Ok(raws) => program_of(alloc, &raws, checked),
+    }
+}
+
+/// The statements of a source text, of all its units.
+///
+/// There are fewer than 2^32 - 1 bytes.
+///
+/// # Errors
+///
+/// Refused, with the first refusal of a line or a statement, which refuses the text. NoMemory may come in place of any answer.
+pub fn read_statements(alloc: Global, bytes: &[u8]) -> Result<LabelledList, SourceEnd>
+    requires { length bytes.now + 1 < 2 ^ 32 }
+    ensures { IsReadAs (statements_read bytes.now) result }
+{
+    match statements(alloc, bytes) {
+        Err(end) => Err(form_refused(end)),
+        Ok(raws) => parsed(alloc, &raws),
     }
 }
 

@@ -1,8 +1,9 @@
 -- What the refusals of a text leave for its list.
-use Rattle.std.proofs.Common.{◌≡◌, ◌≢◌, ℕ, ◌+◌, ◌<◌, ◌≤◌, Bool, true, false, List, [], ◌∷◌, length, sum_by, Option, Some, None, if◌then◌else◌, refl, sym, ap, subst, ◌∙◌, arith}
+use Rattle.std.proofs.Common.{◌≡◌, ◌≢◌, ℕ, ◌+◌, ◌<◌, ◌≤◌, Bool, true, false, not, List, [], ◌∷◌, length, sum_by, Option, Some, None, if◌then◌else◌, refl, sym, ap, subst, ◌∙◌, arith}
 use Rattle.std.specs.Prelude.{Result, Ok, Err, IfOk, IfErr, nat_lt}
-use Rattle.std.specs.List.{list_all, range_with_len}
+use Rattle.std.specs.List.{list_all, list_any, range_with_len}
 use Rattle.std.proofs.lemmas.Bool.{ltb-false}
+use Rattle.std.proofs.lemmas.List.Sums.{prefix_len-le-length}
 use Rattle.f77_tree.specs.declared.statements.Labelled.{Labelled}
 use Rattle.layout_rules.specs.Faults.{first_answer, first_line}
 use Rattle.layout_rules.specs.Source.{EndsWithEnd}
@@ -12,13 +13,13 @@ use Rattle.f77_subs.specs.Expansion.{put_in, total_width, whole_list}
 use Rattle.f77_subs.specs.Heights.{NoneCallsItself}
 use Rattle.f77_subs.specs.NamedTables.{AreFit}
 use Rattle.f77_subs.specs.Refusals.{end_at, expansion, form_refusals, has_bad_call, has_great_name, is_out_of_unit, list_unless, recursion, size_refusals, unit_refusal}
-use Rattle.f77_subs.specs.Units.{call_in, in_first, is_end, reaches, unit_at, unit_of, units}
+use Rattle.f77_subs.specs.Units.{call_in, in_first, is_end, is_sub_of, reaches, unit_at, unit_of, units}
 use Rattle.f77_subs.specs.UnitTables.{passes}
 use Rattle.f77_subs.specs.Widths.{body_width, width}
 use Rattle.f77_subs.proofs.AcceptedTables.{subs, main-dummies, fit}
 use Rattle.f77_subs.proofs.NoAnswer.{each-none, in-range, no-end, no-line, none-at}
 use Rattle.f77_subs.proofs.RefusalsMet.{form-told, size-told}
-use Rattle.f77_subs.proofs.SizesMet.{none-wide}
+use Rattle.f77_subs.proofs.SizesMet.{none-great, none-wide}
 
 -- ---- a text has a unit
 
@@ -33,6 +34,11 @@ some-unit (s ∷ rest) ended = by (is_end s.stmt)
     by : (b : Bool) → 0 < length (if b then (s ∷ []) ∷ units rest else in_first s (units rest))
     by true = omega arith
     by false = in-first (units rest)
+
+pub some-first : (us : List (List Labelled)) → 0 < unit_of us [] → 0 < length us
+some-first us behind =
+    let few = prefix_len-le-length (λ (u : List Labelled). not (list_any (is_sub_of []) u)) us in
+    omega (arith, behind, few)
 
 -- ---- no refusal of form
 
@@ -72,6 +78,9 @@ narrow us most none =
     let own : ℕ = sum_by (width (body_width us (length us)) us 0) (unit_at us 0) in
     let few : own + length (put_in us) ≤ most = ltb-false most (total_width us) none in
     omega (arith, few)
+
+pub few-numbers : (us : List (List Labelled)) → first_answer (λ r. r) (size_refusals us) ≡ None → has_great_name us ≡ false
+few-numbers us accepted = none-great us (nat_lt 4000 (total_width us)) (has_great_name us) accepted
 
 pub few-statements : (us : List (List Labelled)) → first_answer (λ r. r) (size_refusals us) ≡ None → sum_by (width (body_width us (length us)) us 0) (unit_at us 0) ≤ 4000
 few-statements us accepted = narrow us 4000 (none-wide us (nat_lt 4000 (total_width us)) (has_great_name us) accepted)

@@ -1,6 +1,9 @@
 -- What the first unit with a block says of it.
-use Rattle.std.proofs.Common.{◌≡◌, ℕ, ◌<◌, List, length, get_or, Option, Some, None, refl, sym, ◌∙◌, arith}
+use Rattle.std.proofs.Common.{◌≡◌, ℕ, ◌<◌, true, List, [], length, get_or, nat_lt, Option, Some, None, refl, sym, ap, ◌∙◌, arith}
 use Rattle.std.specs.List.{slice_get}
+use Rattle.std.specs.Option.{is_some}
+use Rattle.std.proofs.lemmas.Bool.{ltb-true}
+use Rattle.std.proofs.lemmas.Option.{slice_get-get_or}
 use Rattle.f77_tree.specs.declared.statements.Labelled.{Labelled}
 use Rattle.f77_tree.specs.Places.{same_block}
 use Rattle.indexmap.specs.IndexMap.{get}
@@ -22,6 +25,12 @@ module _ (us : List (List Labelled)) (block : Option (List ℕ)) where
   pub no-size : first_with_block us block ≡ None → block_size us block ≡ 0
   no-size none = rw (no-first block us none) refl
 
+  pub none-inside : (place : ℕ) → nat_lt place (block_size us block) ≡ true → first_with_block us block ≡ None → ⊥
+  none-inside place inside none =
+      let below = ltb-true place (block_size us block) inside in
+      let size = no-size none in
+      omega (arith, below, size)
+
   pub in-first : (place k : ℕ) (name : List ℕ) → first_with_block us block ≡ Some k → slice_get (block_list (unit_at us k) block) place ≡ Some name → declared_in us (InBlock block place) ≡ (unit_at us k, name)
   in-first place k name is there = let first = is-first block us k is in rw (first.kept, there) refl
 
@@ -40,6 +49,12 @@ module _ (us : List (List Labelled)) (table : List UnitNames) (all : AreNamesOfA
 
   pub size-kept : (k n : ℕ) (kept : UnitNames) → first_with_block us block ≡ Some k → kept ≡ get_or table k kept → n ≡ or_zero (get same_block kept.blocks.sizes block) → n ≡ block_size us block
   size-kept k n kept is stands many = many ∙ (first-kept k kept is stands).blocks.sizes block ∙ sym (size-first us block k is)
+
+  pub name-there : (place k : ℕ) (kept : UnitNames) → first_with_block us block ≡ Some k → kept ≡ get_or table k kept → nat_lt place (block_size us block) ≡ true → is_some (get same_entity kept.blocks.names (InBlock block place)) ≡ true
+  name-there place k kept is stands inside =
+      let below = ltb-true place (block_size us block) inside in
+      let size = size-first us block k is in
+      ap is_some ((first-kept k kept is stands).blocks.names block place ∙ slice_get-get_or (block_list (unit_at us k) block) place [] (omega (arith, below, size)))
 
   pub name-kept : (place k : ℕ) (kept : UnitNames) (name : List ℕ) → first_with_block us block ≡ Some k → kept ≡ get_or table k kept → get same_entity kept.blocks.names (InBlock block place) ≡ Some name → (unit_at us k, name) ≡ declared_in us (InBlock block place)
   name-kept place k kept name is stands found = sym (in-first us block place k name is (sym ((first-kept k kept is stands).blocks.names block place) ∙ found))

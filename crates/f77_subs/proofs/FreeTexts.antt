@@ -93,6 +93,10 @@ same-front used count tried few long = ⊎_elim
     at-most : (a count : ℕ) → a ≡ count → a ≤ count
     at-most a count same = omega (arith, same)
 
+pub more-by-one : (old new : List (List ℕ)) (free : Bool) (n : ℕ) → new ≡ old ++ (if free then y_text n ∷ [] else []) → length new ≤ length old + 1
+more-by-one old new true n is = let long = ap length is ∙ length-append old (y_text n ∷ []) in omega (arith, long)
+more-by-one old new false n is = let long = ap length is ∙ length-append old [] in omega (arith, long)
+
 pub free-names : (us : List (List Labelled)) (used : List (List ℕ)) (names : List (List ℕ)) → used ≡ each_once (used_names us) → AreFree used (length (y_entities us)) names → names ≡ own_texts us
 free-names us used names is are =
     let count = length (y_entities us) in

@@ -1,14 +1,16 @@
 -- The first free numbers: whether one of them is great.
 use Rattle.std.proofs.Common.{◌≡◌, ℕ, zero, suc, ◌+◌, ◌<◌, ◌≤◌, ◌^◌, Bool, true, false, not, cond, List, [], ◌∷◌, filter, length, nat_lt, take, refl, sym, ap, ◌∙◌, arith}
 use Rattle.std.specs.List.{list_any, range_with_len}
-use Rattle.std.proofs.lemmas.Bool.{le-ltb}
+use Rattle.std.proofs.lemmas.Bool.{le-ltb, ltb-false}
 use mathlib.Core.Path.{fun_ext}
 use Rattle.layout_rules.specs.Appearances.{each_once}
 use Rattle.f77_subs.specs.Names.{y_text}
+use Rattle.f77_subs.specs.NamedEntities.{are_short}
 use Rattle.f77_subs.specs.NewNames.{is_free_of}
 use Rattle.f77_subs.proofs.FreeNumbers.{enough}
-use Rattle.f77_subs.proofs.GreatNumbers.{great, longer, once-few}
+use Rattle.f77_subs.proofs.GreatNumbers.{great, longer}
 use Rattle.f77_subs.proofs.OwnNames.{texts-apart}
+use Rattle.f77_subs.proofs.ShortNames.{enough-short}
 use Rattle.f77_subs.proofs.StoredNames.{told-all}
 
 fits-in : (n top : ℕ) → n < top → 1 + n ≤ top
@@ -24,29 +26,32 @@ module _ (all : List (List ℕ)) (count : ℕ) (few : count + length (each_once 
   abbrev free : (n : ℕ) → List ℕ
   free n = filter (is_free_of once) (range_with_len 1 n)
 
-  same : is_free_of all ≡ is_free_of once
-  same = fun_ext (λ n. ap not (sym (told-all (y_text n) [] all)))
-
   plenty : count ≤ length (free (count + length once))
   plenty = enough-in count (length (free (count + length once))) (length once) (enough y_text (2 ^ 64) texts-apart once 1 (count + length once) (fits-in (count + length once) (2 ^ 64) few))
-
-  many : count ≤ length (free (count + length all))
-  many =
-      let a = plenty in
-      let b = once-few all in
-      let c = longer (is_free_of once) 0 1 (count + length once) (count + length all) (omega (arith, b)) in
-      omega (arith, a, c)
-
-  pub great-is : (most : ℕ) → list_any (nat_lt most) (take count (filter (is_free_of all) (range_with_len 1 (count + length all)))) ≡ nat_lt (length (free most)) count
-  great-is most =
-      ap (λ (test : ℕ → Bool). list_any (nat_lt most) (take count (filter test (range_with_len 1 (count + length all))))) same
-      ∙ great (is_free_of once) most most 1 (count + length all) count (omega arith) many
 
   pub none-great : (most : ℕ) → count + length once ≤ most → nat_lt (length (free most)) count ≡ false
   none-great most less =
       let a = plenty in
       let b = longer (is_free_of once) 0 1 (count + length once) most less in
       le-ltb (length (free most)) count (omega (arith, a, b))
+
+-- where names are short, so it is of any count
+module _ (all : List (List ℕ)) (short : are_short all ≡ true) (count : ℕ) where
+  abbrev free_of_all : (n : ℕ) → List ℕ
+  free_of_all n = filter (is_free_of all) (range_with_len 1 n)
+
+  pub great-short : (most : ℕ) → list_any (nat_lt most) (take count (filter (is_free_of all) (range_with_len 1 (count + length all)))) ≡ nat_lt (length (free_of_all most)) count
+  great-short most =
+      let plenty = enough-short all short (count + length all) in
+      great (is_free_of all) most most 1 (count + length all) count (omega arith) (enough-in count (length (free_of_all (count + length all))) (length all) plenty)
+
+  -- as many as are asked for have at most five digits
+  pub enough-small : list_any (nat_lt 99999) (take count (filter (is_free_of all) (range_with_len 1 (count + length all)))) ≡ false → count ≤ length (free_of_all 99999)
+  enough-small none = ltb-false (length (free_of_all 99999)) count (sym (great-short 99999) ∙ none)
+
+-- a name is free of these where it is free of them, each once
+pub same-free : (all : List (List ℕ)) → is_free_of (each_once all) ≡ is_free_of all
+same-free all = fun_ext (λ n. ap not (told-all (y_text n) [] all))
 
 abbrev one_of : Bool → ℕ
 one_of b = cond b 1 0
@@ -78,6 +83,3 @@ counted-more test n count is =
     ∙ ap (λ (k : ℕ). length (filter test (range_with_len 1 n)) + cond (test k) 1 0) at
     ∙ sym (counted test 1 n)
     ∙ ap (λ (k : ℕ). length (filter test (range_with_len 1 k))) next
-
-pub few-sum : (a b c n top : ℕ) → b ≡ c → a < n → b < n → n + n ≤ top → a + c < top
-few-sum a b c n top same first second fits = omega (arith, same, first, second, fits)

@@ -1,10 +1,8 @@
 -- The first of the numbers that pass a test, and how many of them are above a number.
-use Rattle.std.proofs.Common.{◌≡◌, ℕ, zero, suc, ◌+◌, ◌<◌, ◌≤◌, Bool, true, false, ◌||◌, cond, List, [], ◌∷◌, ◌++◌, filter, fold, length, min, nat_lt, take, Some, ⊎_elim, refl, sym, ap, ◌∙◌, arith, length-append}
-use Rattle.std.specs.Prelude.{bytes_eq, if◌then◌else◌}
+use Rattle.std.proofs.Common.{◌≡◌, ℕ, zero, suc, ◌+◌, ◌<◌, ◌≤◌, Bool, true, false, ◌||◌, cond, List, [], ◌∷◌, filter, length, min, nat_lt, take, Some, ⊎_elim, refl, sym, ap, ◌∙◌, arith}
 use Rattle.std.specs.List.{list_any, range_with_len, slice_get}
 use Rattle.std.proofs.lemmas.Bool.{cases_Bool, ltb-true, ltb-false, lt-ltb, le-ltb}
 use native.Mathlib.Nat.{min-eq_left, min-eq_right}
-use Rattle.layout_rules.specs.Appearances.{each_once, with_name}
 use Rattle.f77_subs.proofs.FreeNumbers.{within}
 
 -- ---- a sum that stops above a limit
@@ -87,22 +85,3 @@ module _ (free : ℕ → Bool) (most : ℕ) where
       by : (b : Bool) → length (numbers (a + 1) n) ≤ length (numbers (a + 1) m) → length (cond b (a ∷ numbers (a + 1) n) (numbers (a + 1) n)) ≤ length (cond b (a ∷ numbers (a + 1) m) (numbers (a + 1) m))
       by true more = omega (arith, more)
       by false more = more
-
--- ---- names, each once
-
-with-few : (seen : List (List ℕ)) (name : List ℕ) → length (with_name seen name) ≤ length seen + 1
-with-few seen name = by (list_any (bytes_eq name) seen)
-  where
-    by : (b : Bool) → length (if b then seen else seen ++ name ∷ []) ≤ length seen + 1
-    by true = omega arith
-    by false = let a = length-append seen (name ∷ []) in omega (arith, a)
-
-folded-few : (seen names : List (List ℕ)) → length (fold with_name seen names) ≤ length seen + length names
-folded-few seen [] = omega arith
-folded-few seen (name ∷ names) =
-    let a = folded-few (with_name seen name) names in
-    let b = with-few seen name in
-    omega (arith, a, b)
-
-pub once-few : (names : List (List ℕ)) → length (each_once names) ≤ length names
-once-few names = let a = folded-few [] names in omega (arith, a)

@@ -1,19 +1,23 @@
 -- Names by what is kept of units.
 use Rattle.std.proofs.Common.{◌≡◌, ℕ, zero, suc, ◌<◌, Bool, true, false, List, [], ◌∷◌, length, get_or, map, take, Option, Some, None, option_map, if◌then◌else◌, refl, sym, ap, ◌∙◌, arith}
 use Rattle.std.specs.Prelude.{bytes_eq, nat_lt}
-use Rattle.std.specs.List.{position_or_len, slice_get}
-use Rattle.std.proofs.lemmas.Option.{slice_get_read}
+use Rattle.std.specs.List.{list_any, position_or_len, slice_get}
+use Rattle.std.specs.Option.{is_some}
+use Rattle.std.proofs.lemmas.Bool.{ltb-true}
+use Rattle.std.proofs.lemmas.Option.{slice_get-get_or, slice_get_read}
 use Rattle.indexmap.specs.IndexMap.{get}
 use Rattle.f77_tree.specs.declared.statements.Labelled.{Labelled}
 use Rattle.f77_subs.specs.declared.unit_entities.UnitNames.{UnitNames}
 use Rattle.f77_subs.specs.declared.unit_table.NewName.{NewName}
 use Rattle.f77_subs.specs.declared.unit_table.NewName.TheVariants.{Argument, Fixed}
 use Rattle.f77_subs.specs.Entities.{Entity, InBlock, block_list, entity_of, entity_or}
+use Rattle.f77_subs.specs.NamedEntities.{has_main_name}
 use Rattle.f77_subs.specs.Names.{free_numbers, main_name, name_for, same_entity, y_entities, y_name, y_or, y_text}
 use Rattle.f77_subs.specs.NewNames.{own_texts}
 use Rattle.f77_subs.specs.UnitEntities.{AreNamesOf, AreNamesOfAll, entity_by}
 use Rattle.f77_subs.specs.Units.{dummies_of, unit_at}
 use Rattle.f77_subs.specs.UnitTables.{new_name}
+use Rattle.f77_subs.proofs.OwnEntities.{inside-is}
 
 -- what is kept of a unit
 pub kept-at : (us : List (List Labelled)) (table : List UnitNames) (k : ℕ) (kept : UnitNames) → AreNamesOfAll us table → k < length us → kept ≡ get_or table k kept → AreNamesOf (unit_at us k) kept
@@ -47,6 +51,19 @@ text-of : (n : Option ℕ) (name : List ℕ) → option_map y_text n ≡ Some na
 text-of None name is = let e : None ≡ Some name = is in absurd cc
 text-of (Some n) name is = sym (some-same (y_text n) name is)
 
+-- where it has one, there is a main program, and the block has the place
+pub main-some : (us : List (List Labelled)) (entity : Entity) (block : Option (List ℕ)) (place : ℕ) → entity ≡ InBlock block place → has_main_name us entity ≡ true → 0 < length us
+main-some [] entity block place is has =
+    let none : nat_lt place 0 ≡ true = sym (ap (has_main_name []) is) ∙ has in
+    absurd (let below = ltb-true place 0 none in omega (arith, below))
+main-some (u ∷ us) entity block place is has = omega arith
+
+pub main-there : (us : List (List Labelled)) (kept : UnitNames) (entity : Entity) (block : Option (List ℕ)) (place : ℕ) → AreNamesOf (unit_at us 0) kept → entity ≡ InBlock block place → has_main_name us entity ≡ true → is_some (get same_entity kept.blocks.names entity) ≡ true
+main-there us kept entity block place are is has =
+    let names = block_list (unit_at us 0) block in
+    let below = ltb-true place (length names) (sym (ap (has_main_name us) is) ∙ has) in
+    ap (λ (e : Entity). is_some (get same_entity kept.blocks.names e)) is ∙ ap is_some (are.blocks.names block place ∙ slice_get-get_or names place [] (omega (arith, below)))
+
 -- the name of an entity that has one of its own
 pub own-found : (us : List (List Labelled)) (entity : Entity) (names : List (List ℕ)) (own : List Entity) (i : ℕ) (name : List ℕ) → names ≡ own_texts us → own ≡ y_entities us → i ≡ position_or_len (same_entity entity) own → slice_get names i ≡ Some name → name ≡ y_name us entity
 own-found us entity names own i name texts entities place at =
@@ -70,6 +87,16 @@ pub new-argument : (us : List (List Labelled)) (k : ℕ) (kept : UnitNames) (x :
 new-argument us k kept x place are is =
     let p = position_or_len (bytes_eq x) (dummies_of (unit_at us k)) in
     argument-if (nat_lt p (length (dummies_of (unit_at us k)))) place p (Fixed (name_for us (entity_of us k x))) (is ∙ are.places x)
+
+-- a name that has no place among the dummies is none
+pub no-dummy : (us : List (List Labelled)) (k : ℕ) (kept : UnitNames) (x : List ℕ) → AreNamesOf (unit_at us k) kept → None ≡ get bytes_eq kept.places x → list_any (bytes_eq x) (dummies_of (unit_at us k)) ≡ false
+no-dummy us k kept x are none =
+    let dummies = dummies_of (unit_at us k) in
+    sym (inside-is (bytes_eq x) dummies) ∙ by (nat_lt (position_or_len (bytes_eq x) dummies) (length dummies)) (none ∙ are.places x)
+  where
+    by : (b : Bool) → None ≡ (if b then Some (position_or_len (bytes_eq x) (dummies_of (unit_at us k))) else None) → b ≡ false
+    by true is = absurd cc
+    by false is = refl
 
 -- and another name the name of its entity
 pub new-fixed : (us : List (List Labelled)) (k : ℕ) (kept : UnitNames) (x name : List ℕ) → AreNamesOf (unit_at us k) kept → None ≡ get bytes_eq kept.places x → name ≡ name_for us (entity_of us k x) → Fixed name ≡ new_name us k x

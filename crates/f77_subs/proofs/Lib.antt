@@ -73,3 +73,11 @@ mod KeptNames
 pub mod SizesMet
 pub mod AcceptedTexts
 mod SettledWidths
+pub mod UnitNames
+pub mod StoredOwn
+pub mod BlockPlaces
+pub mod CommonOnce
+pub mod NumberedNames
+pub mod FirstUnits
+pub mod NamedEntities
+mod MemberNames

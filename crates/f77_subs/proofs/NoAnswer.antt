@@ -1,5 +1,5 @@
 -- Where a list of refusals answers none, none of them does.
-use Rattle.std.proofs.Common.{◌≡◌, ℕ, zero, suc, ◌+◌, ◌<◌, Bool, true, false, List, [], ◌∷◌, Option, Some, None, refl, sym, ap, ◌∙◌, arith}
+use Rattle.std.proofs.Common.{◌≡◌, ℕ, zero, suc, ◌+◌, ◌<◌, Bool, true, false, List, [], ◌∷◌, ◌++◌, Option, Some, None, refl, sym, ap, ◌∙◌, arith}
 use Rattle.std.specs.List.{slice_get, range_with_len}
 use Rattle.std.proofs.lemmas.List.FromFn.{get_or-range_with_len, length-range_with_len}
 use Rattle.std.proofs.lemmas.Option.{slice_get-get_or}
@@ -8,7 +8,7 @@ use Rattle.layout_rules.specs.declared.layout_end.LayoutEnd.{LayoutEnd}
 use Rattle.layout_rules.specs.Faults.{answer_or, first_answer}
 use Rattle.layout_rules.specs.Layout.{at_line, refusal}
 use Rattle.f77_subs.specs.declared.sub_end.SubEnd.{SubEnd}
-use Rattle.f77_subs.specs.Refusals.{end_at, first_line_if, layout_end, layout_end_of, unit_refusal, unit_refusals}
+use Rattle.f77_subs.specs.Refusals.{end_at, first_line_if, form_refusals, layout_end, layout_end_of, size_refusals, unit_refusal}
 use Rattle.f77_subs.specs.Units.{standing_in, units}
 
 -- ---- of entries, of lines, of answers
@@ -54,10 +54,22 @@ in-range n k below =
     let e : 0 + k ≡ k = omega arith in
     slice_get-get_or (range_with_len 0 n) k k (omega (arith, below, length-range_with_len 0 n)) ∙ ap (λ (m : ℕ). Some m) (get_or-range_with_len 0 n k k below ∙ e)
 
--- ---- each unit of a text that nothing refuses is a program
+-- ---- each unit of a text whose form nothing refuses is a program
+
+front-none : {B : Type 0} (xs ys : List (Option B)) → first_answer (λ r. r) (xs ++ ys) ≡ None → first_answer (λ r. r) xs ≡ None
+front-none [] ys none = refl
+front-none (o ∷ xs) ys none =
+    let parts = answer-none o (first_answer (λ r. r) (xs ++ ys)) none in
+    ap (λ (a : _). answer_or a (first_answer (λ r. r) xs)) parts.0 ∙ front-none xs ys parts.1
+
+pub form-none : (stmts : List Labelled) (checked : Bool) → unit_refusal stmts checked ≡ None → first_answer (λ r. r) (form_refusals stmts (units stmts) checked) ≡ None
+form-none stmts checked accepted = front-none (form_refusals stmts (units stmts) checked) (size_refusals (units stmts)) accepted
+
+pub formed-laid : (stmts : List Labelled) (checked : Bool) → first_answer (λ r. r) (form_refusals stmts (units stmts) checked) ≡ None → (k : ℕ) (u : List Labelled) → slice_get (units stmts) k ≡ Some u → refusal (standing_in u) checked ≡ None
+formed-laid stmts checked formed k u here =
+    let us : List (List Labelled) = units stmts in
+    let none : first_answer (λ (v : List Labelled). layout_end v checked) us ≡ None = none-at (form_refusals stmts us checked) 1 (first_answer (λ (v : List Labelled). layout_end v checked) us) formed refl in
+    no-layout-end (refusal (standing_in u) checked) (each-none (λ (v : List Labelled). layout_end v checked) us none k u here)
 
 pub laid : (stmts : List Labelled) (checked : Bool) → unit_refusal stmts checked ≡ None → (k : ℕ) (u : List Labelled) → slice_get (units stmts) k ≡ Some u → refusal (standing_in u) checked ≡ None
-laid stmts checked accepted k u here =
-    let us : List (List Labelled) = units stmts in
-    let none : first_answer (λ (v : List Labelled). layout_end v checked) us ≡ None = none-at (unit_refusals stmts us checked) 1 (first_answer (λ (v : List Labelled). layout_end v checked) us) accepted refl in
-    no-layout-end (refusal (standing_in u) checked) (each-none (λ (v : List Labelled). layout_end v checked) us none k u here)
+laid stmts checked accepted = formed-laid stmts checked (form-none stmts checked accepted)

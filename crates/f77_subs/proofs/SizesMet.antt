@@ -27,6 +27,12 @@ module _ (us : List (List Labelled)) where
   none-told false true narrow small = let e : true ≡ false = small in absurd cc
   none-told true great narrow small = let e : true ≡ false = narrow in absurd cc
 
+  -- no refusal: no number is too great
+  pub none-great : (wide great : Bool) → size_end wide great ≡ None → great ≡ false
+  none-great true great none = let e : Some (TooManyStatements (last_line (unit_at us 0))) ≡ None = none in absurd cc
+  none-great false true none = let e : Some (TooManyNames (last_line (unit_at us 0))) ≡ None = none in absurd cc
+  none-great false false none = refl
+
   -- no refusal: the list isn't too long
   pub none-wide : (wide great : Bool) → size_end wide great ≡ None → wide ≡ false
   none-wide true great none = let e : Some (TooManyStatements (last_line (unit_at us 0))) ≡ None = none in absurd cc

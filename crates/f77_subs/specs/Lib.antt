@@ -33,3 +33,4 @@ pub mod UnitBlocks
 pub mod UnitEntities
 pub mod NewNames
 pub mod PutCounts
+pub mod NamedEntities

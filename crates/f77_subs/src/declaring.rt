@@ -1,9 +1,11 @@
 //! Declarations of entities that are put in.
-ghost use Rattle.std.specs.Prelude.{◌≡◌, ◌<◌, ◌++◌, ◌∷◌, [], length, map, IfOk, OnOk};
+ghost use Rattle.std.specs.Prelude.{◌≡◌, ◌<◌, ◌++◌, ◌∷◌, [], length, map, true, IfOk, OnOk};
 ghost use Rattle.std.specs.List.{range_with_len};
 ghost use Rattle.layout_rules.specs.Declarations.{kind_of};
 ghost use Rattle.layout_rules.specs.Executables.{kind_or_integer as kind_or_integer_of};
 ghost use Rattle.f77_subs.specs.Expansion.{block_size as block_size_of, common_decl as common_decl_of, declared_in as declared_in_of, type_decl as type_decl_of};
+ghost use Rattle.f77_subs.specs.NamedEntities.{has_name, is_declared};
+ghost use Rattle.f77_subs.specs.PutIn.{is_put_in};
 ghost use Rattle.f77_subs.specs.Units.{unit_at};
 
 use crate::entity::{Entity, copy_of_block};
@@ -19,6 +21,8 @@ pub(crate) fn type_decl(
     put: &PutIn,
     entity: &Entity,
 ) -> Result<(Kind, DeclList), NoMemory>
+    requires named { has_name put.now.new.now.text.now.us.now entity.now ≡ true }
+    requires declared { is_declared put.now.new.now.text.now.us.now entity.now ≡ true }
     ensures kind { IfOk result (λ made. made.0 ≡ kind_or_integer_of (kind_of (declared_in_of put.now.new.now.text.now.us.now entity.now).0 (declared_in_of put.now.new.now.text.now.us.now entity.now).1)) }
     ensures decls { IfOk result (λ made. made.1 ≡ type_decl_of put.now.new.now.text.now.us.now entity.now ∷ []) }
 {
@@ -45,39 +49,29 @@ fn kind_or_integer(kind: Option<Kind>) -> Kind
 
 // The unit that declares an entity, and the name that the entity has there.
 fn declared_in(alloc: Global, put: &PutIn, entity: &Entity) -> Result<(usize, Name), NoMemory>
+    requires { is_declared put.now.new.now.text.now.us.now entity.now ≡ true }
     ensures inside { IfOk result (λ found. found.0 < length put.now.new.now.text.now.us.now) }
     ensures same { IfOk result (λ found. (unit_at put.now.new.now.text.now.us.now found.0, found.1) ≡ declared_in_of put.now.new.now.text.now.us.now entity.now) }
 {
     match entity {
-        Entity::Local(k, name) => local_in(alloc, put, *k, name),
+        Entity::Local(k, name) => Ok((*k, name.copy(alloc)?)),
         Entity::InBlock(block, _) => match put.firsts.get(block) {
             Some(k) => {
                 let name = copy_found(alloc, put.new.text.kept[*k].blocks.name_at(entity))?;
                 Ok((*k, name))
             }
-            None => Err(NoMemory),
+            None => unreachable!(),
         },
     }
 }
 
-// A local of the unit k, if there is such a unit.
-fn local_in(alloc: Global, put: &PutIn, k: usize, name: &Name) -> Result<(usize, Name), NoMemory>
-    ensures inside { IfOk result (λ found. found.0 < length put.now.new.now.text.now.us.now) }
-    ensures same { IfOk result (λ found. found ≡ (k, name.now)) }
-{
-    if k < put.new.text.us.len() {
-        Ok((k, name.copy(alloc)?))
-    } else {
-        Err(NoMemory)
-    }
-}
-
-/// Declarators of the new names of a block, as many as it has places.
+/// Declarators of the new names of a block that is put in, as many as it has places.
 pub(crate) fn common_decls(
     alloc: Global,
     put: &PutIn,
     block: &Option<Name>,
 ) -> Result<DeclList, NoMemory>
+    requires { is_put_in put.now.new.now.text.now.us.now block.now ≡ true }
     ensures { IfOk result (λ made. made ≡ map (common_decl_of put.now.new.now.text.now.us.now block.now) (range_with_len 0 (block_size_of put.now.new.now.text.now.us.now block.now))) }
 {
     let mut decls = Sequence::new(alloc);
@@ -97,13 +91,15 @@ fn add_decl(decls: &mut DeclList, decl: Decl) -> Result<(), NoMemory>
     decls.push(decl)
 }
 
-// The new name of a place of a block.
+// The new name of a place of a block that is put in.
 fn common_decl(
     alloc: Global,
     put: &PutIn,
     block: &Option<Name>,
     place: usize,
 ) -> Result<Decl, NoMemory>
+    requires put { is_put_in put.now.new.now.text.now.us.now block.now ≡ true }
+    requires inside { place < block_size_of put.now.new.now.text.now.us.now block.now }
     ensures { IfOk result (λ made. made ≡ common_decl_of put.now.new.now.text.now.us.now block.now place) }
 {
     let entity = Entity::InBlock(copy_of_block(alloc, block)?, place);

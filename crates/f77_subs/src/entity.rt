@@ -1,6 +1,6 @@
 //! What the names of units stand for.
-ghost use Rattle.std.specs.Prelude.{◌≡◌, ◌<◌, [], length, Some, slice_get, IfOk, IfSome, OnOk};
-ghost use Rattle.std.specs.List.{position_or_len};
+ghost use Rattle.std.specs.Prelude.{◌≡◌, ◌<◌, [], length, Some, slice_get, true, IfOk, OnOk};
+ghost use Rattle.std.specs.List.{list_any, position_or_len};
 ghost use Rattle.f77_subs.specs.Names.{same_entity, with_entity};
 
 use df_sequence::{Copied, NoMemory};
@@ -79,11 +79,16 @@ impl Entities {
         self.set.len()
     }
 
-    /// The index of an entity, or none where it isn't among them.
-    pub(crate) fn index(&self, entity: &Entity) -> Option<usize>
-        ensures { IfSome result (λ i. i ≡ position_or_len (same_entity entity.now) self.now) }
+    /// The index of an entity that is among them.
+    pub(crate) fn place(&self, entity: &Entity) -> usize
+        requires { list_any (same_entity entity.now) self.now ≡ true }
+        ensures is { result ≡ position_or_len (same_entity entity.now) self.now }
+        ensures inside { result < length self.now }
     {
-        self.set.get_index_of(entity)
+        match self.set.get_index_of(entity) {
+            Some(i) => i,
+            None => unreachable!(),
+        }
     }
 
     /// The entity at an index.

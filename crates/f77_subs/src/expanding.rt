@@ -7,8 +7,9 @@ ghost use Rattle.f77_subs.specs.CallGraph.{call_graph};
 ghost use Rattle.f77_subs.specs.CallTable.{unit_named};
 ghost use Rattle.f77_subs.specs.Expansion.{whole_list as whole_list_of};
 ghost use Rattle.f77_subs.specs.Heights.{NoneCallsItself};
+ghost use Rattle.f77_subs.specs.NamedEntities.{AreAllNamed};
 ghost use Rattle.f77_subs.specs.NamedTables.{AreFit};
-ghost use Rattle.f77_subs.specs.Refusals.{expansion, list_unless, size_refusals};
+ghost use Rattle.f77_subs.specs.Refusals.{expansion, has_great_name, list_unless, size_refusals};
 ghost use Rattle.f77_subs.specs.Texts.{IsText};
 ghost use Rattle.f77_subs.specs.Units.{runs as runs_of, unit_at};
 ghost use Rattle.f77_subs.specs.Widths.{body_width, width};
@@ -71,6 +72,7 @@ fn of_units(alloc: Global, text: &TextEntities) -> Result<Result<LabelledList, S
     requires room { edge_count (call_graph text.now.us.now) < 2 ^ 31 }
     requires none { NoneCallsItself text.now.us.now }
     requires fit { AreFit text.now.us.now }
+    requires named { AreAllNamed text.now.us.now }
     ensures { IfOk result (λ found. found ≡ list_unless (first_answer (λ r. r) (size_refusals text.now.us.now)) (whole_list_of text.now.us.now)) }
 {
     let index = sub_index(alloc, text.us)?;
@@ -97,6 +99,8 @@ fn list_of(
     requires told { (k : ℕ) → k < length text.now.us.now → slice_index_or runs.now k false ≡ runs_of text.now.us.now k }
     requires none { NoneCallsItself text.now.us.now }
     requires fit { AreFit text.now.us.now }
+    requires named { AreAllNamed text.now.us.now }
+    requires small { has_great_name text.now.us.now ≡ false }
     requires few { sum_by (width (body_width text.now.us.now (length text.now.us.now)) text.now.us.now 0) (unit_at text.now.us.now 0) ≤ 4000 }
     ensures { IfOk result (λ list. list ≡ whole_list_of text.now.us.now) }
 {

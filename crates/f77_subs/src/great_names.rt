@@ -1,7 +1,8 @@
 //! Whether a text needs a name of a great number.
-ghost use Rattle.std.specs.Prelude.{◌≡◌, ◌+◌, ◌<◌, ◌^◌, ℕ, List, filter, length, nat_lt, IfOk};
+ghost use Rattle.std.specs.Prelude.{◌≡◌, ◌+◌, ◌<◌, ℕ, List, true, filter, length, nat_lt, IfOk};
 ghost use Rattle.std.specs.List.{list_any, range_with_len};
 ghost use Rattle.layout_rules.specs.Appearances.{each_once};
+ghost use Rattle.f77_subs.specs.NamedEntities.{are_short};
 ghost use Rattle.f77_subs.specs.NewNames.{first_free, is_free_of};
 
 use crate::put_counts::one_if;
@@ -18,8 +19,8 @@ pub(crate) fn has_number_above(
     count: usize,
     most: u32,
 ) -> Result<bool, NoMemory>
-    requires few { count < 2 ^ 32 }
-    ensures { IfOk result (λ above. (all : List (List ℕ)) → used.now ≡ each_once all → above ≡ list_any (nat_lt most) (first_free all count)) }
+    requires { most < 100000 }
+    ensures { IfOk result (λ above. (all : List (List ℕ)) → used.now ≡ each_once all → are_short all ≡ true → above ≡ list_any (nat_lt most) (first_free all count)) }
 {
     if !is_over(count, used.len(), most) {
         return Ok(false);
@@ -30,10 +31,9 @@ pub(crate) fn has_number_above(
 
 // Whether the sum is more than this.
 fn is_over(count: usize, used: u32, most: u32) -> bool
-    requires { count < 2 ^ 32 }
     ensures { result ≡ nat_lt most (count + used) }
 {
-    count + used as usize > most as usize
+    count.saturating_add(used as usize) > most as usize
 }
 
 fn is_less(free: u32, count: usize) -> bool
@@ -44,6 +44,7 @@ fn is_less(free: u32, count: usize) -> bool
 
 // How many numbers from 1 on are free, of so many.
 fn count_free(alloc: Global, used: &AppearingNames, most: u32) -> Result<u32, NoMemory>
+    requires { most < 100000 }
     ensures { IfOk result (λ count. count ≡ length (filter (is_free_of used.now) (range_with_len 1 most))) }
 {
     let mut count = 0;
@@ -56,6 +57,7 @@ fn count_free(alloc: Global, used: &AppearingNames, most: u32) -> Result<u32, No
 
 // Whether the name of a number isn't in use.
 fn is_free(alloc: Global, used: &AppearingNames, n: u32) -> Result<bool, NoMemory>
+    requires { n < 100000 }
     ensures { IfOk result (λ free. free ≡ is_free_of used.now n) }
 {
     let name = y_name(alloc, n)?;

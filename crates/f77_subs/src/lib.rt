@@ -58,8 +58,12 @@ pub use expanding::expand;
 pub use laws::{
     copies_are_counted, copies_settle, labels_of_pieces_stand_apart, units_have_heights,
 };
+pub use new_names::NewNames;
+pub use splitting::Units;
 pub use sub_end::SubEnd;
+pub use text_entities::TextEntities;
 pub use unit_laws::{
     names_of_texts_are_short, own_names_are_new, short_names_are_new, stand_ins_are_given,
     units_are_sources, units_end_once,
 };
+pub use unit_table::NewName;

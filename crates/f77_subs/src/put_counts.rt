@@ -2,6 +2,7 @@
 ghost use Rattle.std.specs.Prelude.{◌≡◌, ◌+◌, ◌-◌, ◌<◌, ◌≤◌, ℕ, List, Option, false, cond, filter, length, min, slice_index_or, IfOk};
 ghost use Rattle.std.specs.List.{list_any, count_by};
 ghost use Rattle.f77_tree.specs.Places.{same_block};
+ghost use Rattle.f77_subs.specs.Entities.{Local};
 ghost use Rattle.f77_subs.specs.Expansion.{is_running as is_running_of, put_in};
 ghost use Rattle.f77_subs.specs.Names.{has_block, y_entities};
 ghost use Rattle.f77_subs.specs.PutCounts.{is_added_by, is_put as is_put_of, storage_below, storage_of};
@@ -35,32 +36,26 @@ pub(crate) fn put_in_count(
 {
     let running = running_blocks(alloc, us, runs)?;
     let blocks = all_blocks(alloc, us)?;
-    let types = type_count(us, runs, &running, own, limit)?;
+    let types = type_count(us, runs, &running, own, limit);
     let commons = common_count(main, &running, &blocks, limit);
     let stored = storage_count(us, runs, limit);
     let declared = add_within(types, commons, limit);
     Ok(add_within(declared, stored, limit))
 }
 
-// How many of these entities are those of subroutines that run.
-fn type_count(
-    us: &Units,
-    runs: &[bool],
-    running: &Blocks,
-    own: &Entities,
-    limit: u32,
-) -> Result<u32, NoMemory>
+// How many of the entities that get names of their own are those of subroutines that run.
+fn type_count(us: &Units, runs: &[bool], running: &Blocks, own: &Entities, limit: u32) -> u32
     requires enough { length us.now < length runs.now }
     requires told { (k : ℕ) → k < length us.now → slice_index_or runs.now k false ≡ runs_of us.now k }
     requires running { (block : Option (List ℕ)) → list_any (same_block block) running.now ≡ is_run_block us.now block }
-    ensures { IfOk result (λ count. count ≡ min (length (filter (is_running_of us.now) own.now)) limit) }
+    requires own { own.now ≡ y_entities us.now }
+    ensures { result ≡ min (length (filter (is_running_of us.now) own.now)) limit }
 {
     let mut count = 0;
     for i in 0..own.len() {
-        let counted = is_running(us, runs, running, own.at(i))?;
-        count = one_more(count, counted, limit);
+        count = one_more(count, is_running(us, runs, running, own.at(i)), limit);
     }
-    Ok(count)
+    count
 }
 
 // One more, or the limit where that is more.
@@ -78,27 +73,17 @@ pub(crate) fn one_if(counted: bool) -> u32
     if counted { 1 } else { 0 }
 }
 
-// Whether an entity is one of a subroutine that runs. There is no memory for those of units that aren't there.
-fn is_running(
-    us: &Units,
-    runs: &[bool],
-    running: &Blocks,
-    entity: &Entity,
-) -> Result<bool, NoMemory>
+/// Whether an entity is one of a subroutine that runs, where these are the units that run, and their blocks.
+pub(crate) fn is_running(us: &Units, runs: &[bool], running: &Blocks, entity: &Entity) -> bool
     requires enough { length us.now < length runs.now }
     requires told { (k : ℕ) → k < length us.now → slice_index_or runs.now k false ≡ runs_of us.now k }
     requires running { (block : Option (List ℕ)) → list_any (same_block block) running.now ≡ is_run_block us.now block }
-    ensures { IfOk result (λ runs. runs ≡ is_running_of us.now entity.now) }
+    requires unit { (k : ℕ) (name : List ℕ) → entity.now ≡ Local k name → k < length us.now }
+    ensures { result ≡ is_running_of us.now entity.now }
 {
     match entity {
-        Entity::Local(unit, _) => {
-            if *unit < us.len() {
-                Ok(runs[*unit])
-            } else {
-                Err(NoMemory)
-            }
-        }
-        Entity::InBlock(block, _) => Ok(running.has(block)),
+        Entity::Local(unit, _) => runs[*unit],
+        Entity::InBlock(block, _) => running.has(block),
     }
 }
 

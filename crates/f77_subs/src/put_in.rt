@@ -1,10 +1,11 @@
 //! What is put into the main program: declarations of the entities that subroutines add, and their EQUIVALENCE and DATA.
-ghost use Rattle.std.specs.Prelude.{◌≡◌, ◌<◌, ◌++◌, ◌∷◌, [], ℕ, List, Option, false, filter, flat_map, if◌then◌else◌, length, map, slice_index_or, IfOk, OnOk};
+ghost use Rattle.std.specs.Prelude.{◌≡◌, ◌<◌, ◌++◌, ◌∷◌, [], ℕ, List, Option, false, true, filter, flat_map, if◌then◌else◌, length, map, slice_index_or, IfOk, OnOk};
 ghost use Rattle.std.specs.List.{list_any};
 ghost use Rattle.indexmap.specs.IndexMap.{get};
 ghost use Rattle.f77_tree.specs.Places.{same_block};
 ghost use Rattle.f77_subs.specs.Expansion.{blocks as blocks_of, common_of, datas, is_running as is_running_of, put_in, ties, type_of, units_but_main};
 ghost use Rattle.layout_rules.specs.Layout.{last_line};
+ghost use Rattle.f77_subs.specs.NamedEntities.{has_name, is_declared};
 ghost use Rattle.f77_subs.specs.Names.{y_entities};
 ghost use Rattle.f77_subs.specs.PutIn.{first_with_block, is_put_in as is_put_in_of, is_run_block};
 ghost use Rattle.f77_subs.specs.Units.{runs as runs_of, unit_at};
@@ -14,6 +15,7 @@ use crate::declaring::{common_decls, type_decl};
 use crate::entity::{Entity, copy_of_block};
 use crate::new_names::NewNames;
 use crate::put_blocks::{all_blocks, first_units, running_blocks};
+use crate::put_counts::is_running;
 use crate::put_storage::{put_datas_if, put_ties_if};
 use crate::text_names::Blocks;
 use crate::unit_lines::line_of_end;
@@ -96,31 +98,16 @@ impl<'a> PutIn<'a> {
         out: &mut LabelledList,
         entity: &Entity,
     ) -> Result<(), NoMemory>
+        requires named { has_name self.now.new.now.text.now.us.now entity.now ≡ true }
+        requires declared { is_declared self.now.new.now.text.now.us.now entity.now ≡ true }
         ensures { OnOk result (out.new ≡ out.old ++ (if is_running_of self.now.new.now.text.now.us.now entity.now then type_of self.now.new.now.text.now.us.now self.now.line entity.now ∷ [] else [])) }
     {
-        let running = self.is_running(entity)?;
-        if !running {
+        if !is_running(self.new.text.us, self.runs, &self.running, entity) {
             return Ok(());
         }
         let (kind, decls) = type_decl(alloc, self, entity)?;
         put(out, 0, self.line, Stmt::TypeOf(kind, decls))?;
         Ok(())
-    }
-
-    // Whether an entity is one of a subroutine that runs. Each is one of a unit of the text.
-    fn is_running(&self, entity: &Entity) -> Result<bool, NoMemory>
-        ensures { IfOk result (λ running. running ≡ is_running_of self.now.new.now.text.now.us.now entity.now) }
-    {
-        match entity {
-            Entity::Local(unit, _) => {
-                if *unit < self.new.text.us.len() {
-                    Ok(self.runs[*unit])
-                } else {
-                    Err(NoMemory)
-                }
-            }
-            Entity::InBlock(block, _) => Ok(self.running.has(block)),
-        }
     }
 
     // A COMMON statement for each block that subroutines that run add.

@@ -1,6 +1,11 @@
 //! EQUIVALENCE and DATA of subroutines, with the new names.
-ghost use Rattle.std.specs.Prelude.{◌≡◌, ◌<◌, ◌++◌, [], flat_map, if◌then◌else◌, length, map, IfOk, OnOk};
+ghost use Rattle.std.specs.Prelude.{◌≡◌, ◌<◌, ◌++◌, [], flat_map, if◌then◌else◌, length, map, true, IfOk, OnOk};
+ghost use Rattle.layout_rules.specs.Appearances.{appearing};
+ghost use Rattle.layout_rules.specs.Declarations.{is_array};
+ghost use Rattle.f77_subs.specs.Entities.{entity_of};
 ghost use Rattle.f77_subs.specs.Expansion.{datas, init_for, member_for, members_for, ties};
+ghost use Rattle.f77_subs.specs.NamedEntities.{HaveNames, has_name};
+ghost use Rattle.f77_subs.specs.Refusals.{is_of_storage};
 ghost use Rattle.f77_subs.specs.Units.{unit_at};
 
 use crate::copying::put;
@@ -19,11 +24,12 @@ pub(crate) fn put_ties_if(
     runs: bool,
     k: usize,
 ) -> Result<(), NoMemory>
-    requires { k < length new.now.text.now.us.now }
+    requires sub { 0 < k }
+    requires unit { k < length new.now.text.now.us.now }
     ensures { OnOk result (out.new ≡ out.old ++ (if runs then flat_map (ties new.now.text.now.us.now k) (unit_at new.now.text.now.us.now k) else [])) }
 {
     if runs {
-        put_unit_ties(alloc, new, out, k, new.text.us.at(k))
+        put_unit_ties(alloc, new, out, k)
     } else {
         Ok(())
     }
@@ -35,11 +41,12 @@ fn put_unit_ties(
     new: &NewNames,
     out: &mut LabelledList,
     k: usize,
-    unit: &[Labelled],
 ) -> Result<(), NoMemory>
-    requires { k < length new.now.text.now.us.now }
-    ensures { OnOk result (out.new ≡ out.old ++ flat_map (ties new.now.text.now.us.now k) unit.now) }
+    requires sub { 0 < k }
+    requires unit { k < length new.now.text.now.us.now }
+    ensures { OnOk result (out.new ≡ out.old ++ flat_map (ties new.now.text.now.us.now k) (unit_at new.now.text.now.us.now k)) }
 {
+    let unit = new.text.us.at(k);
     for s in unit {
         put_tie(alloc, new, out, k, s)?;
     }
@@ -53,7 +60,8 @@ fn put_tie(
     k: usize,
     s: &Labelled,
 ) -> Result<(), NoMemory>
-    requires { k < length new.now.text.now.us.now }
+    requires unit { k < length new.now.text.now.us.now }
+    requires named { is_of_storage s.now.stmt ≡ true → HaveNames new.now.text.now.us.now k (appearing (is_array (unit_at new.now.text.now.us.now k)) s.now.stmt) }
     ensures { OnOk result (out.new ≡ out.old ++ ties new.now.text.now.us.now k s.now) }
 {
     match &s.stmt {
@@ -74,11 +82,12 @@ pub(crate) fn put_datas_if(
     runs: bool,
     k: usize,
 ) -> Result<(), NoMemory>
-    requires { k < length new.now.text.now.us.now }
+    requires sub { 0 < k }
+    requires unit { k < length new.now.text.now.us.now }
     ensures { OnOk result (out.new ≡ out.old ++ (if runs then flat_map (datas new.now.text.now.us.now k) (unit_at new.now.text.now.us.now k) else [])) }
 {
     if runs {
-        put_unit_datas(alloc, new, out, k, new.text.us.at(k))
+        put_unit_datas(alloc, new, out, k)
     } else {
         Ok(())
     }
@@ -90,11 +99,12 @@ fn put_unit_datas(
     new: &NewNames,
     out: &mut LabelledList,
     k: usize,
-    unit: &[Labelled],
 ) -> Result<(), NoMemory>
-    requires { k < length new.now.text.now.us.now }
-    ensures { OnOk result (out.new ≡ out.old ++ flat_map (datas new.now.text.now.us.now k) unit.now) }
+    requires sub { 0 < k }
+    requires unit { k < length new.now.text.now.us.now }
+    ensures { OnOk result (out.new ≡ out.old ++ flat_map (datas new.now.text.now.us.now k) (unit_at new.now.text.now.us.now k)) }
 {
+    let unit = new.text.us.at(k);
     for s in unit {
         put_data(alloc, new, out, k, s)?;
     }
@@ -108,7 +118,8 @@ fn put_data(
     k: usize,
     s: &Labelled,
 ) -> Result<(), NoMemory>
-    requires { k < length new.now.text.now.us.now }
+    requires unit { k < length new.now.text.now.us.now }
+    requires named { is_of_storage s.now.stmt ≡ true → HaveNames new.now.text.now.us.now k (appearing (is_array (unit_at new.now.text.now.us.now k)) s.now.stmt) }
     ensures { OnOk result (out.new ≡ out.old ++ datas new.now.text.now.us.now k s.now) }
 {
     match &s.stmt {
@@ -128,7 +139,8 @@ fn changed_groups(
     k: usize,
     groups: &GroupList,
 ) -> Result<GroupList, NoMemory>
-    requires { k < length new.now.text.now.us.now }
+    requires unit { k < length new.now.text.now.us.now }
+    requires named { HaveNames new.now.text.now.us.now k (flat_map (λ group. map (λ member. member.name) group) groups.now) }
     ensures { IfOk result (λ made. made ≡ map (members_for new.now.text.now.us.now k) groups.now) }
 {
     let mut made = Sequence::new(alloc);
@@ -145,7 +157,8 @@ fn changed_parts(
     k: usize,
     parts: &InitPartList,
 ) -> Result<InitPartList, NoMemory>
-    requires { k < length new.now.text.now.us.now }
+    requires unit { k < length new.now.text.now.us.now }
+    requires named { HaveNames new.now.text.now.us.now k (flat_map (λ part. map (λ item. item.name) part.items) parts.now) }
     ensures { IfOk result (λ made. made ≡ map (init_for new.now.text.now.us.now k) parts.now) }
 {
     let mut made = Sequence::new(alloc);
@@ -162,7 +175,8 @@ fn changed_part(
     k: usize,
     part: &InitPart,
 ) -> Result<InitPart, NoMemory>
-    requires { k < length new.now.text.now.us.now }
+    requires unit { k < length new.now.text.now.us.now }
+    requires named { HaveNames new.now.text.now.us.now k (map (λ item. item.name) part.now.items) }
     ensures { IfOk result (λ made. made ≡ init_for new.now.text.now.us.now k part.now) }
 {
     Ok(InitPart {
@@ -178,7 +192,8 @@ fn changed_members(
     k: usize,
     members: &MemberList,
 ) -> Result<MemberList, NoMemory>
-    requires { k < length new.now.text.now.us.now }
+    requires unit { k < length new.now.text.now.us.now }
+    requires named { HaveNames new.now.text.now.us.now k (map (λ member. member.name) members.now) }
     ensures { IfOk result (λ made. made ≡ members_for new.now.text.now.us.now k members.now) }
 {
     let mut made = Sequence::new(alloc);
@@ -195,7 +210,8 @@ fn changed_member(
     k: usize,
     member: &Member,
 ) -> Result<Member, NoMemory>
-    requires { k < length new.now.text.now.us.now }
+    requires unit { k < length new.now.text.now.us.now }
+    requires named { has_name new.now.text.now.us.now (entity_of new.now.text.now.us.now k member.now.name) ≡ true }
     ensures { IfOk result (λ made. made ≡ member_for new.now.text.now.us.now k member.now) }
 {
     Ok(Member {

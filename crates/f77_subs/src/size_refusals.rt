@@ -1,12 +1,13 @@
 //! Refusals that speak of the size of the expansion.
-ghost use Rattle.std.specs.Prelude.{◌≡◌, ◌+◌, ◌<◌, ℕ, List, false, length, nat_lt, slice_index_or, bytes_eq, IfOk};
+ghost use Rattle.std.specs.Prelude.{◌≡◌, ◌+◌, ◌<◌, ℕ, List, false, true, length, nat_lt, slice_index_or, bytes_eq, IfOk};
 ghost use Rattle.std.specs.List.{list_any};
 ghost use Rattle.indexmap.specs.IndexMap.{get};
 ghost use Rattle.layout_rules.specs.Faults.{first_answer};
 ghost use Rattle.f77_subs.specs.CallTable.{unit_named};
 ghost use Rattle.f77_subs.specs.Expansion.{total_width};
 ghost use Rattle.f77_subs.specs.Heights.{NoneCallsItself};
-ghost use Rattle.f77_subs.specs.Names.{own_numbers};
+ghost use Rattle.f77_subs.specs.NamedEntities.{AreAllNamed, are_short};
+ghost use Rattle.f77_subs.specs.Names.{own_numbers, used_names};
 ghost use Rattle.f77_subs.specs.Refusals.{size_refusals};
 ghost use Rattle.f77_subs.specs.Units.{runs as runs_of};
 
@@ -38,6 +39,7 @@ pub(crate) fn size_refusal(
     requires enough { length text.now.us.now < length runs.now }
     requires told { (k : ℕ) → k < length text.now.us.now → slice_index_or runs.now k false ≡ runs_of text.now.us.now k }
     requires none { NoneCallsItself text.now.us.now }
+    requires named { AreAllNamed text.now.us.now }
     ensures { IfOk result (λ end. end ≡ first_answer (λ r. r) (size_refusals text.now.us.now)) }
 {
     let wide = has_more_statements(alloc, text, index, runs, MOST_STATEMENTS)?;
@@ -73,13 +75,11 @@ fn has_more_statements(
 
 // Whether the name of a number above this is needed.
 fn needs_number_above(alloc: Global, text: &TextEntities, most: u32) -> Result<bool, NoMemory>
+    requires short { are_short (used_names text.now.us.now) ≡ true }
+    requires digits { most < 100000 }
     ensures { IfOk result (λ above. above ≡ list_any (nat_lt most) (own_numbers text.now.us.now)) }
 {
-    let count = text.own.len();
-    if count > u32::MAX as usize {
-        return Err(NoMemory);
-    }
     let used = text.used(alloc)?;
-    let above = has_number_above(alloc, &used, count, most)?;
+    let above = has_number_above(alloc, &used, text.own.len(), most)?;
     Ok(above)
 }

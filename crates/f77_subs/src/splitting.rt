@@ -8,16 +8,16 @@ use f77_tree::{Labelled, Stmt};
 use std::alloc::Global;
 use std::marker::Model;
 
-/// Places of statements, from one up to another.
+// Places of statements, from one up to another.
 #[derive(Clone, Copy)]
-pub(crate) struct Span {
+struct Span {
     from: usize,
     to: usize,
 }
 
-/// The units of a text. Contracts see them as lists of statements.
+/// The units of a text, the main program first (ANSI X3.9-1978, section 3.5). Contracts see them as lists of statements.
 #[derive(Drop)]
-pub(crate) struct Units<'a> {
+pub struct Units<'a> {
     stmts: &'a [Labelled],
     spans: Vec<Span>,
 }
@@ -40,7 +40,11 @@ impl<'a> Model for Units<'a> {
 
 impl<'a> Units<'a> {
     /// The units of these statements.
-    pub(crate) fn of(alloc: Global, stmts: &'a [Labelled]) -> Result<Units<'a>, NoMemory>
+    ///
+    /// # Errors
+    ///
+    /// Where there is no memory.
+    pub fn of(alloc: Global, stmts: &'a [Labelled]) -> Result<Units<'a>, NoMemory>
         ensures { IfOk result (λ found. found ≡ units stmts.now) }
     {
         let mut spans = Vec::new(alloc);
@@ -56,14 +60,14 @@ impl<'a> Units<'a> {
     }
 
     /// How many there are.
-    pub(crate) fn len(&self) -> usize
+    pub fn len(&self) -> usize
         ensures { result ≡ length self.now }
     {
         self.spans.len()
     }
 
     /// The unit at the index k, counted from 0.
-    pub(crate) fn at(&self, k: usize) -> &'a [Labelled]
+    pub fn at(&self, k: usize) -> &'a [Labelled]
         requires { k < length self.now }
         ensures unit { slice_get self.now k ≡ Some result.now }
         ensures statements { result.now ≡ unit_at self.now k }

@@ -16,10 +16,11 @@ use declared_names::AppearingNames;
 use df_sequence::NoMemory;
 use std::alloc::Global;
 
-/// The entities of a text.
+/// What the names of a text stand for.
 #[derive(Drop)]
-pub(crate) struct TextEntities<'a> {
-    pub(crate) us: &'a Units<'a>,
+pub struct TextEntities<'a> {
+    /// Its units.
+    pub us: &'a Units<'a>,
     /// What is kept of each unit.
     pub(crate) kept: Vec<UnitNames>,
     /// The blocks of the main program.
@@ -33,7 +34,11 @@ pub(crate) struct TextEntities<'a> {
 
 impl<'a> TextEntities<'a> {
     /// Reads all units. It takes a time linear in them.
-    pub(crate) fn of(alloc: Global, us: &'a Units<'a>) -> Result<TextEntities<'a>, NoMemory>
+    ///
+    /// # Errors
+    ///
+    /// Where there is no memory.
+    pub fn of(alloc: Global, us: &'a Units<'a>) -> Result<TextEntities<'a>, NoMemory>
         ensures { IfOk result (λ text. text.us.now ≡ us.now) }
     {
         let kept = names_of_all(alloc, us)?;

@@ -61,9 +61,6 @@ fn put_whole(alloc: Global, copies: &CopyTables, put: &PutIn) -> Result<Labelled
     ensures { IfOk result (λ list. list ≡ whole_list_of copies.now.units.us.now) }
 {
     let us = copies.units.us;
-    if us.len() == 0 {
-        return Err(NoMemory);
-    }
     let main = us.at(0);
     let copy = CopyOf {
         table: &copies.tables[0],

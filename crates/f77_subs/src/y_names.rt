@@ -1,5 +1,6 @@
 //! Names that a text doesn't have: Y and five digits.
-ghost use Rattle.std.specs.Prelude.{◌≡◌, ◌++◌, if◌then◌else◌, [], ◌∷◌, IfOk, OnOk};
+ghost use Rattle.std.specs.Prelude.{◌≡◌, ◌<◌, ◌≤◌, ◌++◌, if◌then◌else◌, [], ◌∷◌, filter, length, IfOk, OnOk};
+ghost use Rattle.std.specs.List.{range_with_len};
 ghost use Rattle.f77_subs.specs.Names.{y_text, zeros as zeros_of};
 ghost use Rattle.f77_subs.specs.NewNames.{AreFree, is_free_of};
 
@@ -9,26 +10,26 @@ use f77_tree::Name;
 use itoa::Buffer;
 use std::alloc::Global;
 
-/// The names of so many free numbers, from 1 on. Those of greater numbers than `most` aren't taken: there is no memory for more.
+// Numbers from this one on have more than five digits.
+const TOO_GREAT: u32 = 100_000;
+
+/// The names of so many free numbers, from 1 on. So many are free.
 pub(crate) fn free_names(
     alloc: Global,
     used: &AppearingNames,
     count: usize,
-    most: u32,
 ) -> Result<Vec<Name>, NoMemory>
+    requires { count ≤ length (filter (is_free_of used.now) (range_with_len 1 99999)) }
     ensures { IfOk result (λ names. AreFree used.now count names.items) }
 {
     let mut names = Vec::new(alloc);
-    for n in 1..most {
+    for n in 1..TOO_GREAT {
         if names.len() == count {
             return Ok(names);
         }
         push_free(alloc, &mut names, used, n)?;
     }
-    if names.len() == count {
-        return Ok(names);
-    }
-    Err(NoMemory)
+    Ok(names)
 }
 
 // Adds the name of a number, if it is free.
@@ -38,6 +39,7 @@ fn push_free(
     used: &AppearingNames,
     n: u32,
 ) -> Result<(), NoMemory>
+    requires { n < 100000 }
     ensures { OnOk result (names.new.items ≡ names.old.items ++ (if is_free_of used.now n then y_text n ∷ [] else [])) }
 {
     let name = y_name(alloc, n)?;
@@ -47,8 +49,9 @@ fn push_free(
     Ok(())
 }
 
-// The name of a number, which has at most five digits.
+/// The name of a number, which has at most five digits.
 pub(crate) fn y_name(alloc: Global, n: u32) -> Result<Name, NoMemory>
+    requires { n < 100000 }
     ensures { IfOk result (λ name. name ≡ y_text n) }
 {
     let mut text = Vec::new(alloc);
@@ -58,7 +61,7 @@ pub(crate) fn y_name(alloc: Global, n: u32) -> Result<Name, NoMemory>
     text.extend_from_slice(buffer.format(n).as_bytes())?;
     match Name::new(&text) {
         Some(name) => Ok(name),
-        None => Err(NoMemory),
+        None => unreachable!(),
     }
 }
 

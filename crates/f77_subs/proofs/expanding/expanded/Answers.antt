@@ -1,12 +1,14 @@
-use Rattle.std.proofs.Common.{◌^◌, List, Option, sym, subst, ap, ◌∙◌, arith}
+use Rattle.std.proofs.Common.{◌≡◌, ◌^◌, List, None, Option, sym, subst, ap, ◌∙◌, arith}
 use Rattle.f77_tree.specs.declared.statements.Labelled.{Labelled}
 use Rattle.layout_rules.specs.Faults.{first_answer}
 use Rattle.f77_subs.specs.declared.sub_end.SubEnd.{SubEnd}
 use Rattle.f77_subs.specs.Expansion.{whole_list}
 use Rattle.f77_subs.specs.Heights.{NoneCallsItself}
+use Rattle.f77_subs.specs.NamedEntities.{AreAllNamed}
 use Rattle.f77_subs.specs.NamedTables.{AreFit}
-use Rattle.f77_subs.specs.Refusals.{list_unless, size_refusals}
+use Rattle.f77_subs.specs.Refusals.{form_refusals, list_unless, size_refusals}
 use Rattle.f77_subs.proofs.AcceptedTexts.{are-fit, formed, none-recurs, sized}
+use Rattle.f77_subs.proofs.NamedEntities.{all-named}
 use Rattle.f77_subs.proofs.FewCalls.{few-edges, few-units}
 use Rattle.f77_subs.proofs.expanding.expanded.Goals as goal
 
@@ -24,6 +26,11 @@ of_units-requires-clause-none c = subst NoneCallsItself (sym c.in_ok-text-in-Non
 
 pub of_units-requires-clause-fit : goal.of_units-requires-clause-fit
 of_units-requires-clause-fit c = subst AreFit (sym c.in_ok-text-in-None.ensures) (are-fit c.args.stmts.now c.args.checked c.requires.ended c.in_ok-us.us c.in_ok-us.ensures (sym c.in_ok-form.ensures ∙ c.in-None.is))
+
+pub of_units-requires-clause-named : goal.of_units-requires-clause-named
+of_units-requires-clause-named c =
+    subst AreAllNamed (sym (c.in_ok-text-in-None.ensures ∙ c.in_ok-us.ensures))
+    (all-named c.args.stmts.now c.args.checked c.requires (subst (λ (us : List (List Labelled)). first_answer (λ r. r) (form_refusals c.args.stmts.now us c.args.checked) ≡ None) c.in_ok-us.ensures (sym c.in_ok-form.ensures ∙ c.in-None.is)))
 
 pub returns : goal.returns
 returns c =

@@ -2,7 +2,7 @@ use Rattle.std.proofs.Common.{sym, ◌∙◌}
 use Rattle.layout_rules.specs.Faults.{first_answer}
 use Rattle.f77_subs.specs.Expansion.{whole_list}
 use Rattle.f77_subs.specs.Refusals.{size_refusals}
-use Rattle.f77_subs.proofs.AcceptedTexts.{few-statements, listed, refused}
+use Rattle.f77_subs.proofs.AcceptedTexts.{few-numbers, few-statements, listed, refused}
 use Rattle.f77_subs.proofs.expanding.of_units.Goals as goal
 
 pub returns-in-Some : goal.returns-in-Some
@@ -12,6 +12,9 @@ returns-in-Some c =
 
 pub list_of-requires-clause-few : goal.list_of-requires-clause-few
 list_of-requires-clause-few c = few-statements c.args.text.now.us.now (sym c.in_ok-size.ensures ∙ c.in-None.is)
+
+pub list_of-requires-clause-small : goal.list_of-requires-clause-small
+list_of-requires-clause-small c = few-numbers c.args.text.now.us.now (sym c.in_ok-size.ensures ∙ c.in-None.is)
 
 pub returns : goal.returns
 returns c =

@@ -14,13 +14,13 @@ returns c =
     let types : ℕ = length (filter (is_running us) (y_entities us)) in
     let commons : ℕ = length (filter (is_put_in us) (blocks us)) in
     let stored : ℕ = storage_below us (length us - 1) in
-    let first = c.in_ok-types.ensures ∙ ap (λ (es : List Entity). min (length (filter (is_running us) es)) limit) c.requires.own in
+    let first = c.type_count-types.ensures ∙ ap (λ (es : List Entity). min (length (filter (is_running us) es)) limit) c.requires.own in
     let second =
     c.common_count-commons.ensures
     ∙ ap (λ (bs : List (Option (List ℕ))). min (length (filter (is_added_by c.args.main.now c.in_ok-running.running) bs)) limit) c.in_ok-blocks.ensures
     ∙ ap (λ (test : Option (List ℕ) → Bool). min (length (filter test (blocks us))) limit) (added-is us c.args.main.now c.in_ok-running.running c.requires.main c.in_ok-running.ensures)
     in
-    let declared = c.add_within-declared.ensures ∙ two-capped types commons limit c.in_ok-types.types c.common_count-commons.result first second in
+    let declared = c.add_within-declared.ensures ∙ two-capped types commons limit c.type_count-types.result c.common_count-commons.result first second in
     c.add_within.ensures
     ∙ two-capped (types + commons) stored limit c.add_within-declared.result c.storage_count-stored.result declared c.storage_count-stored.ensures
     ∙ ap (λ (n : ℕ). min n limit) (sym (put-count us))

@@ -2,7 +2,12 @@ use Rattle.std.proofs.Common.{◌≤◌, List, length, arith, sym, subst}
 use Rattle.f77_tree.specs.declared.declarations.Member.{Member}
 use Rattle.f77_subs.specs.Expansion.{member_for}
 use Rattle.f77_subs.proofs.ChangedRows.{map-few}
+use Rattle.f77_subs.proofs.MemberNames.{member-named}
 use Rattle.f77_subs.proofs.put_storage.changed_members.Goals as goal
+
+pub changed_member-requires-clause-named : goal.changed_member-requires-clause-named
+changed_member-requires-clause-named c =
+    member-named c.args.new.now.text.now.us.now c.args.k c.args.members.now c.as_slice-member-items.result.now c.loop-member.member-index c.member-item.result c.as_slice-member-items.ensures.items c.requires.named c.loop-member-test.true c.member-item.is
 
 pub push-requires : goal.push-requires
 push-requires c =

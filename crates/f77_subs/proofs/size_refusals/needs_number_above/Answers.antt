@@ -8,5 +8,5 @@ pub returns : goal.returns
 returns c =
     let us = c.args.text.now.us.now in
     let most = c.args.most in
-    let count : c.len-count.result ≡ length (y_entities us) = c.len-count.ensures ∙ ap (λ (es : List Entity). length es) c.args.text.now.all_own in
-    c.in_ok-above.ensures (used_names us) c.in_ok-used.ensures ∙ ap (λ (n : ℕ). list_any (nat_lt most) (take n (free_numbers us n))) count
+    let count : c.len.result ≡ length (y_entities us) = c.len.ensures ∙ ap (λ (es : List Entity). length es) c.args.text.now.all_own in
+    c.in_ok-above.ensures (used_names us) c.in_ok-used.ensures c.requires.short ∙ ap (λ (n : ℕ). list_any (nat_lt most) (take n (free_numbers us n))) count

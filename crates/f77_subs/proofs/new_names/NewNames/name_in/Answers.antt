@@ -1,9 +1,18 @@
 use Rattle.std.proofs.Common.{◌≡◌, ap, ◌∙◌}
 use Rattle.f77_subs.specs.Entities.{entity_of}
+use Rattle.f77_subs.specs.NamedEntities.{has_name}
 use Rattle.f77_subs.specs.Names.{name_for}
 use Rattle.f77_subs.proofs.KeptNames.{entity-is, kept-at}
 use Rattle.f77_subs.proofs.Results.{if-ok}
 use Rattle.f77_subs.proofs.new_names.NewNames.name_in.Goals as goal
+
+pub name_for-requires : goal.name_for-requires
+name_for-requires c =
+    let text = c.args.self.now.text.now in
+    let us = text.us.now in
+    let kept = c.index.result.now in
+    let are = kept-at us text.kept.items c.args.k kept text.all_kept c.requires.unit c.index.ensures in
+    ap (has_name us) (c.in_ok-entity.ensures ∙ entity-is us c.args.k kept c.args.name.now are) ∙ c.requires.named
 
 pub returns : goal.returns
 returns c =
@@ -12,7 +21,7 @@ returns c =
     let k = c.args.k in
     let x = c.args.name.now in
     let kept = c.index.result.now in
-    let are = kept-at us text.kept.items k kept text.all_kept c.requires c.index.ensures in
+    let are = kept-at us text.kept.items k kept text.all_kept c.requires.unit c.index.ensures in
     if-ok (λ name. name ≡ name_for us c.in_ok-entity.entity) (λ name. name ≡ name_for us (entity_of us k x)) c.name_for.result
     (λ name is. is ∙ ap (name_for us) (c.in_ok-entity.ensures ∙ entity-is us k kept x are))
     c.name_for.ensures

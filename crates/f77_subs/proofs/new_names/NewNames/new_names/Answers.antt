@@ -4,9 +4,17 @@ use Rattle.std.specs.List.{list_any}
 use Rattle.std.proofs.lemmas.List.{take_all}
 use Rattle.indexmap.specs.IndexMap.{get}
 use Rattle.f77_subs.specs.UnitTables.{new_name}
+use Rattle.f77_subs.proofs.BlockPlaces.{among-at}
 use Rattle.f77_subs.proofs.KeptNames.{kept-at}
 use Rattle.f77_subs.proofs.PutLists.{named-more}
 use Rattle.f77_subs.proofs.new_names.NewNames.new_names.Goals as goal
+
+pub new_name-requires-clause-appears : goal.new_name-requires-clause-appears
+new_name-requires-clause-appears c =
+    let text = c.args.self.now.text.now in
+    let kept = c.index-kept.result.now in
+    let are = kept-at text.us.now text.kept.items c.args.k kept text.all_kept c.requires.unit c.index-kept.ensures in
+    ap (list_any (bytes_eq c.name-name.result.now)) (sym are.names) ∙ among-at kept.names c.loop-i.i c.name-name.result.now c.name-name.ensures
 
 pub loop-i-preserved : goal.loop-i-preserved
 loop-i-preserved c =
@@ -21,7 +29,7 @@ pub returns : goal.returns
 returns c = λ x told.
     let text = c.args.self.now.text.now in
     let kept = c.index-kept.result.now in
-    let are = kept-at text.us.now text.kept.items c.args.k kept text.all_kept c.requires c.index-kept.ensures in
+    let are = kept-at text.us.now text.kept.items c.args.k kept text.all_kept c.requires.unit c.index-kept.ensures in
     let many = c.len-i-end.ensures in
     let past : length kept.names ≤ c.loop-i.i = omega (arith, many) in
     c.loop-i.invariant x (ap (list_any (bytes_eq x)) (take_all c.loop-i.i kept.names past ∙ are.names) ∙ told)

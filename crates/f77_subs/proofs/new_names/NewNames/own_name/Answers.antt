@@ -1,16 +1,36 @@
-use Rattle.std.proofs.Common.{◌≡◌, Some, ◌∙◌}
+use Rattle.std.proofs.Common.{◌≡◌, ◌<◌, List, Some, length, refl, sym, ap, ◌∙◌, arith}
 use Rattle.std.specs.Prelude.{slice_get}
-use Rattle.f77_subs.specs.Names.{y_name}
+use Rattle.std.specs.List.{list_any}
+use Rattle.std.proofs.lemmas.Option.{slice_get_read}
+use Rattle.f77_subs.specs.Entities.{Entity}
+use Rattle.f77_subs.specs.Names.{same_entity, y_name}
 use Rattle.f77_subs.proofs.KeptNames.{own-found}
 use Rattle.f77_subs.proofs.Results.{if-ok}
 use Rattle.f77_subs.proofs.new_names.NewNames.own_name.Goals as goal
 
-pub returns-in-Some : goal.returns-in-Some
-returns-in-Some c =
+pub place-i-requires : goal.place-i-requires
+place-i-requires c = ap (λ (own : List Entity). list_any (same_entity c.args.entity.now) own) c.args.self.now.text.now.all_own ∙ c.requires
+
+pub index-requires : goal.index-requires
+index-requires c =
+    let new = c.args.self.now in
+    let inside = c.place-i.ensures.inside in
+    let many = new.as_many in
+    let same = ap length new.text.now.all_own in
+    omega (arith, inside, many, same, new.names.ok.0)
+
+pub returns : goal.returns
+returns c =
     let new = c.args.self.now in
     let us = new.text.now.us.now in
     let e = c.args.entity.now in
-    let i = c.in-Some.i in
-    if-ok (λ name. slice_get c.deref.result.now i ≡ Some name) (λ name. name ≡ y_name us e) c.copy_at.result
-    (λ name at. own-found us e c.deref.result.now new.text.now.own i name (c.deref.ensures.value ∙ new.all_named) new.text.now.all_own c.in-Some.ensures at)
-    c.copy_at.ensures
+    let i = c.place-i.result in
+    let here = c.index.result.now in
+    let inside = c.place-i.ensures.inside in
+    let many = new.as_many in
+    let same = ap length new.text.now.all_own in
+    let below : i < length new.names.items = omega (arith, inside, many, same) in
+    let there : slice_get new.names.items i ≡ Some here = slice_get_read new.names.items (length new.names.items) i here refl below c.index.ensures in
+    if-ok (λ name. name ≡ here) (λ name. name ≡ y_name us e) c.copy.result
+    (λ name is. own-found us e new.names.items new.text.now.own i name new.all_named new.text.now.all_own c.place-i.ensures.is (there ∙ ap Some (sym is)))
+    c.copy.ensures

@@ -3,8 +3,19 @@ use Rattle.std.specs.Prelude.{slice_get}
 use Rattle.f77_subs.specs.Entities.{Entity}
 use Rattle.f77_subs.specs.Expansion.{is_running, type_of}
 use Rattle.f77_subs.specs.Names.{y_entities}
+use Rattle.f77_subs.proofs.NamedEntities.{own-named}
 use Rattle.f77_subs.proofs.PutLists.{kept-more}
 use Rattle.f77_subs.proofs.put_in.PutIn.put_types.Goals as goal
+
+pub put_type-requires-clause-named : goal.put_type-requires-clause-named
+put_type-requires-clause-named c =
+    let new = c.args.self.now.new.now in
+    own-named new.text.now.us.now c.loop-i.i c.at.result.now (ap (λ (es : List Entity). slice_get es c.loop-i.i) (sym new.text.now.all_own) ∙ c.at.ensures)
+
+pub put_type-requires-clause-declared : goal.put_type-requires-clause-declared
+put_type-requires-clause-declared c =
+    let new = c.args.self.now.new.now in
+    new.named.declared c.loop-i.i c.at.result.now (ap (λ (es : List Entity). slice_get es c.loop-i.i) (sym new.text.now.all_own) ∙ c.at.ensures)
 
 pub loop-i-preserved : goal.loop-i-preserved
 loop-i-preserved c =
