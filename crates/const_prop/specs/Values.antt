@@ -1,6 +1,6 @@
 -- Words at places, in blocks of 32, of which most hold none.
 use Rattle.std.proofs.Common.{zero, suc}
-use Rattle.std.specs.Prelude.{◌≡◌, ◌≢◌, ◌≤◌, ◌<◌, ◌+◌, ◌*◌, ◌/◌, ◌%◌, ◌^◌, ℕ, ℤ, pos, Option, Some, None, if◌then◌else◌, List, length, count_by, slice_index_or, vec_capacity}
+use Rattle.std.specs.Prelude.{◌≡◌, ◌≢◌, ◌≤◌, ◌+◌, ◌*◌, ◌/◌, ◌%◌, ℕ, ℤ, pos, Option, Some, None, if◌then◌else◌, List, length, count_by, slice_index_or, vec_capacity}
 use Rattle.class_set.specs.declared.ClassSet.{ClassSet}
 use Rattle.const_prop.specs.declared.values.Values.TheInside.{Inside}
 use Rattle.const_prop.specs.SparseSets.{is_number, nth_holds}
@@ -34,7 +34,6 @@ pub record AreNumbered (numbers : List ℕ) (count : ℕ) : Type 0 where
 
 -- and there are words for all of them, and room for every block
 pub record IsKept (d : Inside) : Type 0 where
-  pub few : length d.numbers.items < 2 ^ 32
   pub numbered : AreNumbered d.numbers.items (length d.filled.items)
   pub words : length d.words.items ≡ 32 * length d.filled.items
   pub filled_room : length d.numbers.items ≤ vec_capacity d.filled

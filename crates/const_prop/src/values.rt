@@ -17,7 +17,7 @@ const BLOCK: usize = 32;
 #[derive(Drop)]
 pub(crate) struct Values {
     /// For each block its number, from 1 on, or 0 while no place in it has a word.
-    numbers: Vec<u32>,
+    numbers: Vec<usize>,
     /// Which places have words, in the blocks that have a number, in the order of the numbers. There is room for all.
     filled: Vec<ClassSet<1>>,
     /// The words of these blocks. There is room for all.
@@ -35,16 +35,13 @@ impl Model for Values {
 }
 
 impl Values {
-    /// So many places, or a few more, with no word. There is no memory for 2^37 places or more.
+    /// So many places, or a few more, with no word.
     pub(crate) fn new(alloc: Global, count: usize) -> Result<Self, NoMemory>
         requires { count < 2 ^ 60 }
         ensures places { IfOk result (λ v. count ≤ places v) }
         ensures none { IfOk result (λ v. (k : ℕ) → word_of v k ≡ None) }
     {
         let blocks = count.div_ceil(BLOCK);
-        if blocks > u32::MAX as usize {
-            return Err(NoMemory);
-        }
         Ok(Values {
             numbers: vec![in alloc; 0; blocks]?,
             filled: Vec::with_capacity(alloc, blocks)?,
@@ -57,7 +54,7 @@ impl Values {
         requires { place < places self.now }
         ensures { result ≡ word_of self.now place }
     {
-        let number = self.numbers[place / BLOCK] as usize;
+        let number = self.numbers[place / BLOCK];
         if number == 0 {
             return None;
         }
@@ -74,7 +71,7 @@ impl Values {
         ensures words { (k : ℕ) → word_of self.new k ≡ (if k == place then Some word else word_of self.old k) }
     {
         self.begin(place / BLOCK);
-        let number = self.numbers[place / BLOCK] as usize;
+        let number = self.numbers[place / BLOCK];
         self.filled[number - 1].insert((place % BLOCK) as u32);
         self.words[BLOCK * (number - 1) + place % BLOCK] = word;
     }
@@ -104,6 +101,6 @@ impl Values {
         self.filled.push_reserved(ClassSet::empty());
         let number = self.filled.len();
         let _grown = self.words.resize(BLOCK * number, 0);
-        self.numbers[block] = number as u32;
+        self.numbers[block] = number;
     }
 }

@@ -18,9 +18,7 @@ pub(crate) fn numbered(alloc: Global, tops: &[u32], sizes: &[u32]) -> Result<Vec
     let mut names = IndexSet::new(alloc);
     let mut classes = Vec::new(alloc);
     for e in 0..tops.len() {
-        let Ok((class, _)) = names.insert_full((tops[e], sizes[e])) else {
-            return Err(NoMemory);
-        };
+        let (class, _) = names.insert_full((tops[e], sizes[e]))?;
         classes.push(class as u32)?;
     }
     Ok(classes)

@@ -1,7 +1,7 @@
 -- What the tests of free lines tell, where the table of wires is that of a flow graph.
-use Rattle.std.specs.Prelude.{◌≡◌, ◌<◌, ◌↔◌, ℕ, Bool, true, false}
+use Rattle.std.specs.Prelude.{◌≡◌, ◌<◌, ◌↔◌, ℕ, Bool, true, false, ◌≢◌}
 use Rattle.closed_walks.specs.Graph.{Graph, edge_count, from, to}
-use Rattle.closed_walks.specs.Region.{IsFlowGraph}
+use Rattle.closed_walks.specs.Region.{IsFlowGraph, IsPassed}
 use Rattle.region_tree.specs.Tree.{Tree, IsRegionTree}
 use Rattle.dep_routing.specs.FreeLines.{is_free, is_passing, is_bypass}
 use Rattle.dep_routing.specs.Next.{IsHop}
@@ -43,3 +43,8 @@ pub record IsBypass (g : Graph) (t : Tree) (touches : ℕ → ℕ → Bool) (edg
 -- the lines that are told to bypass a region are those
 abbrev pub BypassesAreTold : Type 0
 BypassesAreTold = OfEdges (λ g t touches r edge line. IsRegionTree g t → (is_bypass g r edge line ≡ true) ↔ IsBypass g t touches edge line)
+
+-- a free node other than the start, with one edge to it and another from it, touches the line
+abbrev pub FreePassedNodesTouch : Type 0
+FreePassedNodesTouch = (g : Graph) (t : Tree) (touches : ℕ → ℕ → Bool) (line node a b : ℕ)
+    → IsFlowGraph g → IsRegionTree g t → IsPassed g node a b → 0 ≢ node → IsFree g t touches line node → touches node line ≡ true

@@ -19,3 +19,4 @@ pub mod Sound
 pub mod Touch
 pub mod TouchLaws
 pub mod Touches
+pub mod RunLaws

@@ -1,6 +1,6 @@
 -- The lines in a set. No public clause cites this module.
 use Rattle.std.proofs.Common.{suc}
-use Rattle.std.specs.Prelude.{◌≡◌, ℕ, ◌<◌, ◌↔◌, ◌⊎◌, Bool, true, List, length}
+use Rattle.std.specs.Prelude.{◌≡◌, ℕ, ◌<◌, ◌↔◌, ◌⊎◌, Bool, true, List, length, slice_get}
 use Rattle.class_set.specs.ClassSet.{holds}
 use Rattle.class_set.specs.declared.ClassSet.{ClassSet}
 use Rattle.f77_tree.specs.declared.programs.ExecKind.{ExecKind}
@@ -11,7 +11,8 @@ use Rattle.cfg_build.specs.declared.pieces.Piece.{Piece}
 use Rattle.cfg_build.specs.declared.pieces.PieceKind.{PieceKind}
 use Rattle.cfg_build.specs.declared.pieces.PieceKind.TheVariants.{Act, Branch, Hold}
 use Rattle.dep_routing.specs.Touch.{touches_in}
-use Rattle.dep_routing.specs.Touches.{BranchNeeds, BranchTraps, Prints, TouchesBy}
+use Rattle.dep_routing.specs.Touches.{BranchNeeds, BranchTraps, Prints, TouchesBy, KindNeeds}
+use Rattle.cfg_build.specs.Passes.{kind_in}
 
 module _ {W : ℕ} where
   -- the set holds the line of output where `out` says so, and the classes that are needed
@@ -43,3 +44,9 @@ HasExecutable p _ exec = Unit {0}
 
 abbrev pub RunsExecutable : Program → Piece → Type 0
 RunsExecutable p piece = HasExecutable p piece.kind piece.exec
+
+-- the lines that a piece touches, of which it is told whether it may go round for ever, and whether its executable may trap
+abbrev pub AreLinesOf : {W : ℕ} → Program → ClassTable → Piece → (round may : Bool) → ClassSet W → Type 0
+AreLinesOf p c piece round may lines =
+    let exec = kind_in (slice_get p.execs piece.exec) in
+    AreLines lines (KindNeedsOutIf c (may ≡ true) round piece.kind exec) (KindNeeds c piece.kind exec)

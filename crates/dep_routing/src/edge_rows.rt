@@ -11,7 +11,7 @@ use shared_rows::SharedRows;
 pub(crate) struct EdgeRows {
     pub(crate) table: SharedRows,
     /// For each edge the number of its row, if it has one.
-    pub(crate) row_of: Vec<Option<u32>>,
+    pub(crate) row_of: Vec<Option<usize>>,
 }
 
 impl EdgeRows {

@@ -1,9 +1,10 @@
 //! Laws on quiet regions and on the places of lines, as contracts of functions that do nothing.
 
-ghost use Rattle.std.specs.Prelude.{◌≡◌, ◌≢◌, ◌<◌, ◌⊎◌, ◌↔◌, ℕ, Bool, true};
+ghost use Rattle.std.specs.Prelude.{◌≡◌, ◌<◌, ◌⊎◌, ◌↔◌, ℕ, Bool, true};
 ghost use Rattle.closed_walks.specs.Graph.{Graph, edge_count, from, to};
-ghost use Rattle.closed_walks.specs.Region.{IsFlowGraph, IsPassed};
+ghost use Rattle.closed_walks.specs.Region.{IsFlowGraph};
 ghost use Rattle.region_tree.specs.Tree.{Tree, IsRegionTree, IsNumber, IsPart, innermost_of};
+ghost use Rattle.dep_routing.specs.FreeLaws.{FreePassedNodesTouch};
 ghost use Rattle.dep_routing.specs.Quiet.{IsQuiet, IsTouched, IsInQuiet, IsFree, IsWire, IsLargest};
 ghost use Rattle.dep_routing.specs.Next.{Next};
 ghost use Rattle.dep_routing.specs.Place.{Place};
@@ -71,7 +72,7 @@ pub fn places_over_a_pass()
 
 /// A free node other than the start, with one edge to it and another from it, touches the line.
 pub fn free_passed_nodes()
-    ensures { (g : Graph) (t : Tree) (touches : ℕ → ℕ → Bool) (line node a b : ℕ) → IsFlowGraph g → IsRegionTree g t → IsPassed g node a b → 0 ≢ node → IsFree g t touches line node → touches node line ≡ true }
+    ensures { FreePassedNodesTouch }
 {
     tree_facts();
 }

@@ -9,9 +9,10 @@ ghost use Rattle.alias_classes.specs.Classes.{ClassTable};
 ghost use Rattle.cfg_build.specs.Flow.{flow};
 ghost use Rattle.cfg_build.specs.Passes.{passes};
 ghost use Rattle.region_tree.specs.Tree.{Tree, IsRegionTree, IsIn, exit_of};
-ghost use Rattle.dep_routing.specs.Leaving.{MarksTraps, MarksStays, KeepsMoving};
+ghost use Rattle.dep_routing.specs.Leaving.{MarksTraps, MarksStays};
 ghost use Rattle.dep_routing.specs.Quiet.{IsQuiet};
-ghost use Rattle.dep_routing.specs.Sound.{IsLeftBy, IsSound, comes_to};
+ghost use Rattle.dep_routing.specs.RunLaws.{OutputKeepsMoving};
+ghost use Rattle.dep_routing.specs.Sound.{IsLeftBy, comes_to};
 ghost use Rattle.dep_routing.specs.Touches.{AreTouches};
 
 use crate::facts::tree_facts;
@@ -38,7 +39,7 @@ pub fn quiet_regions_are_left()
 
 /// A run that goes on comes again and again to nodes that are free for the line of output, until it ends or traps.
 pub fn output_keeps_moving()
-    ensures { (p : Program) (c : ClassTable) (t : Tree) (touches : ℕ → ℕ → Bool) (input : List ℤ) (n : ℕ) → AreExecs p.names p.execs p.loops → IsRegionTree (flow p.execs).graph t → IsSound p c t touches → All IsWord input → (passes p input n).mark ≡ Running → KeepsMoving p t touches input n }
+    ensures { OutputKeepsMoving }
 {
     tree_facts();
     flow_graph_is_strong();

@@ -86,7 +86,7 @@ fn blocks_met<const W: usize>(set: &ClassSet<W>, lines: u32) -> u32
 }
 
 /// So many edges without a row.
-fn no_rows(alloc: Global, edges: u32) -> Result<Vec<Option<u32>>, NoMemory>
+fn no_rows(alloc: Global, edges: u32) -> Result<Vec<Option<usize>>, NoMemory>
     ensures { IfOk result (λ row_of. row_of.items ≡ replicate edges None) }
 {
     let mut row_of = Vec::with_capacity(alloc, edges as usize)?;
@@ -98,7 +98,7 @@ fn no_rows(alloc: Global, edges: u32) -> Result<Vec<Option<u32>>, NoMemory>
 /// the other number.
 fn push_row<const W: usize>(
     table: &mut SharedRows,
-    other: Option<u32>,
+    other: Option<usize>,
     rest: u32,
     set: &ClassSet<W>,
     number: u32,
@@ -119,7 +119,7 @@ fn push_row<const W: usize>(
 }
 
 /// Puts a copy of the row after the others, or one that has this number for each line.
-fn begin_row(table: &mut SharedRows, other: Option<u32>, rest: u32) -> Result<(), NoMemory>
+fn begin_row(table: &mut SharedRows, other: Option<usize>, rest: u32) -> Result<(), NoMemory>
     requires { IfSome other (λ k. k < length table.old.rows) }
     ensures { OnOk result (table.new ≡ with_row table.old (begun_row table.old other rest)) }
 {

@@ -1,18 +1,14 @@
 //! That touches are sound, as contracts of functions that do nothing.
 
-ghost use Rattle.std.specs.Prelude.{◌≡◌, ◌<◌, ◌↔◌, ℕ, suc, ℤ, List, Bool, true, All};
-ghost use Rattle.op_table.specs.Words.{IsWord};
+ghost use Rattle.std.specs.Prelude.{◌≡◌, ◌<◌, ◌↔◌, ℕ, suc, Bool, true};
 ghost use Rattle.f77_tree.specs.declared.programs.Program.{Program};
-ghost use Rattle.f77_tree.specs.Run.{Running};
-ghost use Rattle.f77_tree.specs.WellFormed.{IsWellFormed};
 ghost use Rattle.alias_classes.specs.Classes.{ClassTable};
 ghost use Rattle.cfg_build.specs.declared.pieces.PieceKind.TheVariants.{Act, Branch, Hold};
 ghost use Rattle.cfg_build.specs.Flow.{flow};
-ghost use Rattle.cfg_build.specs.Passes.{pass, passes};
-ghost use Rattle.region_tree.specs.Tree.{Tree, IsRegionTree};
+ghost use Rattle.dep_routing.specs.RunLaws.{TrapsTouchOutput, TouchesAreSound};
 ghost use Rattle.dep_routing.specs.TouchLaws.{PiecesTouchLines};
 ghost use Rattle.dep_routing.specs.Touches.{AreTouches, PieceNeeds};
-ghost use Rattle.dep_routing.specs.Sound.{MustTouchOut, MayTouchOut, DoesTrap, IsSound, comes_to};
+ghost use Rattle.dep_routing.specs.Sound.{MustTouchOut, MayTouchOut};
 
 use crate::leaving::quiet_regions_are_left;
 use alias_classes::needs_are_numbered;
@@ -42,7 +38,7 @@ pub fn pieces_touch_lines()
 
 /// Where a run over data of words traps, the piece touches the line of output.
 pub fn traps_touch_output()
-    ensures { (p : Program) (c : ClassTable) (touches : ℕ → ℕ → Bool) (input : List ℤ) (n : ℕ) → IsWellFormed p → AreTouches p c touches → All IsWord input → (passes p input n).mark ≡ Running → DoesTrap (pass p input (passes p input n).edge (passes p input n).memory) → touches (comes_to p input n) 0 ≡ true }
+    ensures { TrapsTouchOutput }
 {
     flow_graph_is_strong();
     passes_are_a_walk();
@@ -52,7 +48,7 @@ pub fn traps_touch_output()
 
 /// What firings ask of the lines that pieces touch holds of the touches of a program, with any tree of its regions.
 pub fn touches_are_sound()
-    ensures { (p : Program) (c : ClassTable) (t : Tree) (touches : ℕ → ℕ → Bool) → IsWellFormed p → IsRegionTree (flow p.execs).graph t → AreTouches p c touches → IsSound p c t touches }
+    ensures { TouchesAreSound }
 {
     touches_follow_needs();
     traps_touch_output();

@@ -10,9 +10,9 @@ ghost use Rattle.alias_classes.specs.Classes.{IsClasses, class_count};
 ghost use Rattle.alias_classes.specs.Needs.{ExecNeeds};
 ghost use Rattle.cfg_build.specs.Flow.{flow};
 ghost use Rattle.cfg_build.specs.Passes.{kind_in};
-ghost use Rattle.dep_routing.specs.PieceLines.{AreLines, BranchNeedsOut, KindNeedsOutIf, RunsExecutable};
+ghost use Rattle.dep_routing.specs.PieceLines.{AreLines, BranchNeedsOut, RunsExecutable, AreLinesOf};
 ghost use Rattle.dep_routing.specs.Touch.{touches_in};
-ghost use Rattle.dep_routing.specs.Touches.{AreTouches, AreTouchesBy, BranchNeeds, BranchTraps, CanTrapAt, IsFlagged, KindNeeds, Prints, ends_rounds, is_increment as spec_is_increment};
+ghost use Rattle.dep_routing.specs.Touches.{AreTouches, AreTouchesBy, BranchNeeds, BranchTraps, CanTrapAt, IsFlagged, Prints, ends_rounds, is_increment as spec_is_increment};
 
 use crate::TouchList;
 use crate::branch_needs::branch_need;
@@ -145,7 +145,7 @@ fn piece_lines<const W: usize>(
     requires few { class_count c.now < 64 * W }
     requires runs { RunsExecutable p.now piece }
     requires input { ExecReadsData (kind_in (slice_get p.now.execs piece.exec)) → may ≡ true }
-    ensures { AreLines result (KindNeedsOutIf c.now (may ≡ true) round piece.kind (kind_in (slice_get p.now.execs piece.exec))) (KindNeeds c.now piece.kind (kind_in (slice_get p.now.execs piece.exec))) }
+    ensures { AreLinesOf p.now c.now piece round may result }
 {
     well_formed_programs_can_run();
     match piece.kind {

@@ -67,7 +67,7 @@ impl<'a> Stepper<'a> {
         ensures state { IfOk result (λ s. state_of s [] ≡ start p.now) }
         ensures line { IfOk result (λ s. last_line s ≡ []) }
     {
-        let room = longest_line(p.execs.as_slice())?;
+        let room = longest_line(p.execs.as_slice());
         Ok(Stepper {
             program: p,
             input: Vec::from_slice(alloc, input)?,

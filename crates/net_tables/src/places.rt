@@ -4,10 +4,10 @@ ghost use Rattle.std.specs.Prelude.{◌≡◌, ◌+◌, ◌<◌, ◌^◌, suc, l
 ghost use Rattle.std.specs.List.{range_with_len};
 ghost use Rattle.class_set.specs.ClassSet.{holds};
 ghost use Rattle.class_set.specs.Members.{IsWidth};
-ghost use Rattle.net_board.specs.Nodes.{graph_in, all_lines, first_node};
-ghost use Rattle.net_board.specs.WokenNodes.{merge_number, no_node, passing_below, place_by, switch_number};
+ghost use Rattle.net_board.specs.Nodes.{graph_in, first_node};
+ghost use Rattle.net_board.specs.WokenNodes.{merge_number, no_node, passing_below, switch_number};
 ghost use Rattle.net_tables.specs.NetTables.{ArePlaceRows, kept_places};
-ghost use Rattle.net_tables.specs.PlaceRowSteps.{IsBlank, IsPushed, IsRewritten};
+ghost use Rattle.net_tables.specs.PlaceRowSteps.{IsBlank, IsPushed, IsRewritten, places_by, numbered_from};
 ghost use Rattle.net_tables.specs.PartsView.{net_in};
 ghost use Rattle.shared_rows.specs.Table.{row_at};
 
@@ -25,7 +25,7 @@ use std::alloc::Global;
 pub(crate) struct PlaceRows {
     pub(crate) table: SharedRows,
     /// For each piece the number of its row, if it has one.
-    pub(crate) row_of: Vec<Option<u32>>,
+    pub(crate) row_of: Vec<Option<usize>>,
 }
 
 /// For each piece that can have switches or merges, for each line the node of the piece that the line goes through, or this number
@@ -57,7 +57,7 @@ fn push_places<const W: usize>(
     piece: u32,
     first: u32,
     none: u32,
-) -> Result<Option<u32>, NoMemory>
+) -> Result<Option<usize>, NoMemory>
     requires piece { piece < (graph_in (net_in plan.now)).nodes }
     requires first { first ≡ first_node (net_in plan.now) piece }
     requires none { none ≡ no_node (net_in plan.now) }
@@ -78,13 +78,13 @@ fn push_switch_places<const W: usize>(
     piece: u32,
     first: u32,
     none: u32,
-) -> Result<Option<u32>, NoMemory>
+) -> Result<Option<usize>, NoMemory>
     requires piece { piece < (graph_in (net_in plan.now)).nodes }
     requires first { first ≡ first_node (net_in plan.now) piece }
     requires none { none ≡ no_node (net_in plan.now) }
     requires blank { IsBlank (net_in plan.now) table.old }
     requires room { switch_number (net_in plan.now) piece (net_in plan.now).routing.lines < 2 ^ 32 }
-    ensures { IfOk result (λ row. IsPushed table.old table.new row (map (λ line. place_by (net_in plan.now) piece line PieceKind.Branch) (all_lines (net_in plan.now)))) }
+    ensures { IfOk result (λ row. IsPushed table.old table.new row (places_by (net_in plan.now) piece PieceKind.Branch)) }
 {
     let row = table.len();
     table.push_copy(0)?;
@@ -100,13 +100,13 @@ fn push_merge_places<const W: usize>(
     piece: u32,
     first: u32,
     none: u32,
-) -> Result<Option<u32>, NoMemory>
+) -> Result<Option<usize>, NoMemory>
     requires piece { piece < (graph_in (net_in plan.now)).nodes }
     requires first { first ≡ first_node (net_in plan.now) piece }
     requires none { none ≡ no_node (net_in plan.now) }
     requires blank { IsBlank (net_in plan.now) table.old }
     requires room { merge_number (net_in plan.now) piece (net_in plan.now).routing.lines < 2 ^ 32 }
-    ensures { IfOk result (λ row. IsPushed table.old table.new row (map (λ line. place_by (net_in plan.now) piece line PieceKind.Join) (all_lines (net_in plan.now)))) }
+    ensures { IfOk result (λ row. IsPushed table.old table.new row (places_by (net_in plan.now) piece PieceKind.Join)) }
 {
     let row = table.len();
     table.push_copy(0)?;
@@ -117,14 +117,14 @@ fn push_merge_places<const W: usize>(
 /// Writes numbers into the cells of the lines in the set: this one first, and for each further line the next one.
 fn number_lines<const W: usize>(
     table: &mut SharedRows,
-    row: u32,
+    row: usize,
     set: &ClassSet<W>,
     first: u32,
 ) -> Result<(), NoMemory>
     requires width { IsWidth W }
     requires row { row < length table.old.rows }
     requires room { first + passing_below (holds set.now) table.old.width < 2 ^ 32 }
-    ensures { OnOk result (IsRewritten table.old row table.new (λ line. if holds set.now line then first + passing_below (holds set.now) line else slice_index (row_at table.old row) line)) }
+    ensures { OnOk result (IsRewritten table.old row table.new (numbered_from table.old row set.now first)) }
 {
     let lines = table.width();
     // What the table says of itself: its rows are full.
@@ -142,7 +142,7 @@ fn number_lines<const W: usize>(
 /// Writes the number into the cells of the lines in the set.
 fn write_at_lines<const W: usize>(
     table: &mut SharedRows,
-    row: u32,
+    row: usize,
     set: &ClassSet<W>,
     number: u32,
 ) -> Result<(), NoMemory>

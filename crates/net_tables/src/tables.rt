@@ -1,6 +1,6 @@
 //! The tables of a net, made from its parts.
 
-ghost use Rattle.std.specs.Prelude.{◌≡◌, ◌<◌, ◌^◌, ◌++◌, ◌&&◌, ℕ, suc, not, All, length, map, slice_index, IfOk, OnOk};
+ghost use Rattle.std.specs.Prelude.{◌≡◌, ◌<◌, ◌^◌, ◌++◌, ◌&&◌, ℕ, suc, All, length, map, slice_index, IfOk, OnOk};
 ghost use Rattle.std.specs.List.{range_with_len};
 ghost use Rattle.class_set.specs.ClassSet.{holds};
 ghost use Rattle.closed_walks.specs.Graph.{edge_count, to};
@@ -12,6 +12,7 @@ ghost use Rattle.net_board.specs.ControlCourse.{arrival, is_idle, passed};
 ghost use Rattle.net_board.specs.Simulation.{HasExecs};
 ghost use Rattle.net_tables.specs.NetTables.{AreTables, all_edges, all_pieces};
 ghost use Rattle.net_tables.specs.PartsView.{net_in};
+ghost use Rattle.net_tables.specs.PlaceRowSteps.{is_led_past};
 
 use crate::places::{PlaceRows, all_places};
 use crate::program_parts::Plan;
@@ -177,7 +178,7 @@ pub(crate) fn free_lines<const W: usize>(plan: &Plan<W>, piece: u32) -> ClassSet
 /// The lines that are led to the piece, and that it doesn't touch.
 pub(crate) fn passing_lines<const W: usize>(plan: &Plan<W>, piece: u32) -> ClassSet<W>
     requires { piece < (graph_in (net_in plan.now)).nodes }
-    ensures { (line : ℕ) → line < (net_in plan.now).routing.lines → holds result line ≡ (is_free (net_in plan.now) piece line && not ((net_in plan.now).touches piece line)) }
+    ensures { (line : ℕ) → line < (net_in plan.now).routing.lines → holds result line ≡ is_led_past (net_in plan.now) piece line }
 {
     free_lines(plan, piece).difference(plan.touch.at(piece))
 }

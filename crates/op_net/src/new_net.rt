@@ -72,7 +72,7 @@ impl<'a, const W: usize> OpNet<'a, W> {
             tables: nodes,
         } = graph;
         let tables = make_tables(alloc, &plan, nodes)?;
-        let room = longest_line(p.execs.as_slice())?;
+        let room = longest_line(p.execs.as_slice());
         let control = first_control(&plan.board);
         let places = first_state(alloc, &plan, &tables)?;
         Ok(OpNet {

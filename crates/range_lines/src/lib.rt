@@ -1,6 +1,7 @@
 //! Which subscripts of a program are seen in range, exactly, and which lines the pieces of its flow graph touch where these can't trap.
 #![tactic(auto)]
 
+mod flags;
 mod laws;
 mod marks;
 mod ranges;

@@ -1,15 +1,16 @@
 //! The subscripts of an executable, one after another, and whether each is seen in range.
 
-ghost use Rattle.std.specs.Prelude.{◌≡◌, ◌&&◌, ◌≤◌, ◌^◌, unsigned_abs, [], ◌∷◌, ◌++◌, All, map, flat_map, OnOk, IfOk};
+ghost use Rattle.std.specs.Prelude.{◌≡◌, ◌&&◌, ◌≤◌, ◌^◌, unsigned_abs, ◌++◌, All, map, flat_map, OnOk, IfOk};
 ghost use Rattle.f77_tree.specs.CanRun.{CanExecute, CanPrint};
 ghost use Rattle.f77_tree.specs.Value.{IsExpression, IsAccess};
 ghost use Rattle.loop_ranges.specs.Subscripts.{item_subscripts};
 ghost use Rattle.range_lines.specs.Marks.{is_seen as spec_is_seen, lies_at as spec_lies_at, flags, exec_flags};
 ghost use Rattle.range_lines.specs.Shapes.{shape_at, lies_in};
 
+use crate::flags::Flags;
 use crate::reaches::Reach;
 use crate::shapes::{Shape, lies_inside, shape_of};
-use df_sequence::{NoMemory, Sequence};
+use df_sequence::NoMemory;
 use f77_tree::{Access, Dim, ExecKind, Expr, ExprList, Item, ItemList, NameInfoList, Program};
 use op_table::Op;
 use std::alloc::Global;
@@ -22,11 +23,11 @@ pub(crate) fn row_of(
     current: &[Option<Reach>],
     k: u32,
     kind: &ExecKind,
-) -> Result<Sequence<bool>, NoMemory>
+) -> Result<Flags, NoMemory>
     requires { CanExecute p.now kind.now }
     ensures { IfOk result (λ row. row ≡ exec_flags p.now.names current.now k kind.now) }
 {
-    let mut row = Sequence::new(alloc);
+    let mut row = Flags::new(alloc);
     mark_exec(p, current, k, kind, &mut row)?;
     Ok(row)
 }
@@ -36,7 +37,7 @@ fn mark_exec(
     current: &[Option<Reach>],
     k: u32,
     kind: &ExecKind,
-    row: &mut Sequence<bool>,
+    row: &mut Flags,
 ) -> Result<(), NoMemory>
     requires { CanExecute p.now kind.now }
     ensures { OnOk result (row.new ≡ row.old ++ exec_flags p.now.names current.now k kind.now) }
@@ -71,7 +72,7 @@ fn mark_items(
     current: &[Option<Reach>],
     k: u32,
     items: &ItemList,
-    row: &mut Sequence<bool>,
+    row: &mut Flags,
 ) -> Result<(), NoMemory>
     requires { All (CanPrint names.now) items.now }
     ensures { OnOk result (row.new ≡ row.old ++ map (spec_is_seen current.now k) (flat_map (item_subscripts names.now) items.now)) }
@@ -87,7 +88,7 @@ fn mark_item(
     current: &[Option<Reach>],
     k: u32,
     item: &Item,
-    row: &mut Sequence<bool>,
+    row: &mut Flags,
 ) -> Result<(), NoMemory>
     requires { CanPrint names.now item.now }
     ensures { OnOk result (row.new ≡ row.old ++ map (spec_is_seen current.now k) (item_subscripts names.now item.now)) }
@@ -105,7 +106,7 @@ fn mark(
     current: &[Option<Reach>],
     k: u32,
     e: &Expr,
-    row: &mut Sequence<bool>,
+    row: &mut Flags,
 ) -> Result<(), NoMemory>
     requires { IsExpression names.now e.now }
     ensures { OnOk result (row.new ≡ row.old ++ flags names.now current.now k e.now) }
@@ -131,7 +132,7 @@ fn mark_all(
     current: &[Option<Reach>],
     k: u32,
     es: &ExprList,
-    row: &mut Sequence<bool>,
+    row: &mut Flags,
 ) -> Result<(), NoMemory>
     requires { All (IsExpression names.now) es.now }
     ensures { OnOk result (row.new ≡ row.old ++ flat_map (flags names.now current.now k) es.now) }
@@ -149,7 +150,7 @@ fn mark_access(
     current: &[Option<Reach>],
     k: u32,
     access: &Access,
-    row: &mut Sequence<bool>,
+    row: &mut Flags,
 ) -> Result<(), NoMemory>
     requires { IsAccess names.now access.now }
     ensures { OnOk result (row.new ≡ row.old ++ flags names.now current.now k (Expr.Read access.now)) }
@@ -158,7 +159,7 @@ fn mark_access(
     let mut at = 0;
     for sub in access.subs.as_slice() {
         mark(names, current, k, sub, row)?;
-        push_flag(row, is_seen(names, current, k, sub, dims[at]))?;
+        row.push(is_seen(names, current, k, sub, dims[at]))?;
         at += 1;
     }
     Ok(())
@@ -200,16 +201,6 @@ fn ends_inside(shape: Shape, dim: Dim, reach: Reach) -> bool
         return false;
     }
     lies_inside(dim, shape, reach.last)
-}
-
-// A row that is full has no memory for more.
-fn push_flag(row: &mut Sequence<bool>, flag: bool) -> Result<(), NoMemory>
-    ensures { OnOk result (row.new ≡ row.old ++ flag ∷ []) }
-{
-    if row.len() == u32::MAX {
-        return Err(NoMemory);
-    }
-    row.push(flag)
 }
 
 /// What an expression that fits the table of names reads is an access of the table.

@@ -7,10 +7,11 @@ ghost use Rattle.f77_tree.specs.CanRun.{CanExecute};
 ghost use Rattle.alias_classes.specs.Classes.{IsClasses, class_count};
 ghost use Rattle.range_lines.specs.Ranges.{AreRanges, after_exec};
 
+use crate::flags::Flags;
 use crate::marks::row_of;
 use crate::reaches::{Reach, loop_reaches};
 use alias_classes::Classes;
-use df_sequence::{NoMemory, Sequence};
+use df_sequence::NoMemory;
 use f77_tree::{Exec, ExecKind, Program};
 use std::alloc::Global;
 use std::marker::Model;
@@ -18,7 +19,7 @@ use std::marker::Model;
 /// For each executable of a program which of its subscripts are seen in range, in the order in which they are checked.
 #[derive(Drop)]
 pub struct Ranges {
-    rows: Vec<Sequence<bool>>,
+    rows: Vec<Flags>,
 }
 
 impl Model for Ranges {
@@ -56,7 +57,7 @@ impl Ranges {
     }
 
     /// How many subscripts an executable has.
-    pub fn subs(&self, exec: u32) -> u32
+    pub fn subs(&self, exec: u32) -> usize
         requires { exec < length self.now }
         ensures { result ≡ length (slice_index_or self.now exec []) }
     {
@@ -69,7 +70,7 @@ impl Ranges {
         requires subscript { k < length (slice_index_or self.now exec []) }
         ensures { result ≡ slice_index_or (slice_index_or self.now exec []) k false }
     {
-        *self.rows[exec as usize].at(k)
+        self.rows[exec as usize].at(k)
     }
 }
 

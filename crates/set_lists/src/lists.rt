@@ -1,4 +1,4 @@
-//! The sets, in eight bytes each where they have one member at most, or are the same as the one before them with more.
+//! The sets, in 16 bytes each where they have one member at most, or are the same as the one before them with more.
 
 ghost use Rattle.std.specs.Prelude.{◌≡◌, ◌<◌, ◌+◌, ◌*◌, ℕ, true, Some, length, slice_get, IfOk, IfSome, OnOk};
 ghost use Rattle.set_lists.specs.declared.lists.Members.TheVariants.{One, Shared};
@@ -16,7 +16,7 @@ enum Members {
     Nothing,
     One(u32),
     /// Those of the shared set with this number.
-    Shared(u32),
+    Shared(usize),
 }
 
 /// Sets of numbers, in order.
@@ -59,7 +59,7 @@ impl<const W: usize> SetList<W> {
         set_of(&self.shared, self.items[i])
     }
 
-    /// Puts a set after the others. More different sets than can be numbered are allocation failure.
+    /// Puts a set after the others.
     pub fn push(&mut self, set: &ClassSet<W>) -> Result<(), NoMemory>
         ensures count { OnOk result (set_count self.new ≡ set_count self.old + 1) }
         ensures last { OnOk result ((k : ℕ) → test_at self.new (set_count self.old) k ≡ holds set.now k) }
@@ -80,7 +80,7 @@ fn set_of<const W: usize>(shared: &Vec<ClassSet<W>>, members: Members) -> ClassS
     match members {
         Members::Nothing => ClassSet::empty(),
         Members::One(n) => ClassSet::empty().with(n),
-        Members::Shared(i) => shared[i as usize],
+        Members::Shared(i) => shared[i],
     }
 }
 
@@ -126,21 +126,10 @@ fn share<const W: usize>(
 {
     let count = shared.len();
     if count > 0 && is_same(&shared[count - 1], set) {
-        numbered(count - 1)
+        Ok(Members::Shared(count - 1))
     } else {
-        let members = numbered(count)?;
         shared.push(*set)?;
-        Ok(members)
-    }
-}
-
-/// The members of the shared set with this number.
-fn numbered(i: usize) -> Result<Members, NoMemory>
-    ensures { IfOk result (λ members. members ≡ Shared i) }
-{
-    match u32::try_from(i) {
-        Ok(i) => Ok(Members::Shared(i)),
-        Err(_) => Err(NoMemory),
+        Ok(Members::Shared(count))
     }
 }
 

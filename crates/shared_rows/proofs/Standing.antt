@@ -1,5 +1,5 @@
 -- What the fields of a table say of its rows.
-use Rattle.std.proofs.Common.{◌≡◌, ◌%◌, ◌<◌, ℕ, List, [], length, get_or, ◌∙◌, arith}
+use Rattle.std.proofs.Common.{◌≡◌, ◌%◌, ◌*◌, ◌<◌, ◌≤◌, ℕ, List, [], length, get_or, ◌∙◌, arith, mul-le-mul_right}
 use Rattle.std.proofs.lemmas.List.{get_or_default}
 use Rattle.shared_rows.specs.Blocks.{IsKept, cell, place, row, table_of}
 use Rattle.shared_rows.specs.Table.{IsFull, Table, row_at}
@@ -28,6 +28,12 @@ module _ (d : Inside) (t : Table) (is : table_of d ≡ t) where
       omega (arith, full k [] below)
 
 module _ (d : Inside) (kept : IsKept d) where
+  -- a row has a block at least
+  pub few_rows : (count : ℕ) (numbers : List ℕ) → length numbers ≡ count * d.blocks → count ≤ length numbers
+  few_rows count numbers size =
+      let most : 1 * count ≤ d.blocks * count = mul-le-mul_right count (let wide = kept.wide in omega (arith, wide)) in
+      omega (arith, most, size)
+
   pub place_within : (k column : ℕ) → k < d.count → column < d.width → place d.blocks k column < length d.numbers.items
   place_within k column below inside = omega (arith, kept.size, place_below d.blocks d.width d.count k column kept.wide below inside)
 

@@ -1,4 +1,4 @@
-ghost use Rattle.std.specs.Prelude.{◌≡◌, ◌<◌, ◌≤◌, [], ◌∷◌, ◌++◌, length, replicate, slice_index, IfOk, OnOk, OnErr};
+ghost use Rattle.std.specs.Prelude.{◌≡◌, ◌<◌, ◌≤◌, ◌^◌, [], ◌∷◌, ◌++◌, length, replicate, slice_index, IfOk, OnOk, OnErr};
 ghost use Rattle.shared_rows.specs.Blocks.{AreKept, AreSame, place as place_of};
 ghost use Rattle.shared_rows.specs.Table.{IsFull, row_at, with_number, with_row};
 
@@ -17,7 +17,7 @@ pub struct SharedRows {
     /// How many blocks a row has.
     blocks: u32,
     /// How many rows there are.
-    count: u32,
+    count: usize,
     /// Numbers that stand next to one another in rows. The last block of a row has more than the row.
     pool: Vec<[u32; 16]>,
     /// For each row in turn, the numbers of its blocks.
@@ -71,7 +71,7 @@ impl SharedRows {
     }
 
     /// How many rows there are.
-    pub fn len(&self) -> u32
+    pub fn len(&self) -> usize
         ensures count { result ≡ length self.now.rows }
         ensures full { IsFull self.now }
     {
@@ -87,7 +87,7 @@ impl SharedRows {
 
     /// The number in a column of a row.
     #[inline]
-    pub fn get(&self, row: u32, column: u32) -> u32
+    pub fn get(&self, row: usize, column: u32) -> u32
         requires row { row < length self.now.rows }
         requires column { column < self.now.width }
         ensures number { result ≡ slice_index (row_at self.now row) column }
@@ -97,15 +97,11 @@ impl SharedRows {
         self.pool[block as usize][(column % COLUMNS) as usize]
     }
 
-    /// Puts a row after the others that has this number in each column. Where there is no memory for it, the table is as before. More
-    /// rows than can be numbered are allocation failure.
+    /// Puts a row after the others that has this number in each column. Where there is no memory for it, the table is as before.
     pub fn push_filled(&mut self, number: u32) -> Result<(), NoMemory>
         ensures ok { OnOk result (self.new ≡ with_row self.old (replicate self.old.width number)) }
         ensures err { OnErr result (self.new ≡ self.old) }
     {
-        if self.count == u32::MAX {
-            return Err(NoMemory);
-        }
         self.numbers.reserve(self.blocks as usize)?;
         let block = push_block(&mut self.pool, [number; 16])?;
         self.numbers
@@ -115,16 +111,12 @@ impl SharedRows {
         Ok(())
     }
 
-    /// Puts a copy of a row after the others. Where there is no memory for it, the table is as before. More rows than can be numbered
-    /// are allocation failure.
-    pub fn push_copy(&mut self, row: u32) -> Result<(), NoMemory>
+    /// Puts a copy of a row after the others. Where there is no memory for it, the table is as before.
+    pub fn push_copy(&mut self, row: usize) -> Result<(), NoMemory>
         requires { row < length self.old.rows }
         ensures ok { OnOk result (self.new ≡ with_row self.old (row_at self.old row)) }
         ensures err { OnErr result (self.new ≡ self.old) }
     {
-        if self.count == u32::MAX {
-            return Err(NoMemory);
-        }
         let first = place(self.blocks, row, 0);
         self.numbers
             .extend_from_within(first..first + self.blocks as usize)?;
@@ -134,7 +126,7 @@ impl SharedRows {
     }
 
     /// Writes the number in a column of a row. Where there is no memory for it, the table is as before.
-    pub fn set(&mut self, row: u32, column: u32, number: u32) -> Result<(), NoMemory>
+    pub fn set(&mut self, row: usize, column: u32, number: u32) -> Result<(), NoMemory>
         requires row { row < length self.old.rows }
         requires column { column < self.old.width }
         ensures ok { OnOk result (self.new ≡ with_number self.old row column number) }
@@ -149,10 +141,11 @@ impl SharedRows {
 
 /// Where the block of a row that has the column stands in the list of block numbers, when a row has so many blocks.
 #[inline]
-fn place(blocks: u32, row: u32, column: u32) -> usize
+fn place(blocks: u32, row: usize, column: u32) -> usize
+    requires { place_of blocks row column < 2 ^ 64 }
     ensures { result ≡ place_of blocks row column }
 {
-    row as usize * blocks as usize + (column / COLUMNS) as usize
+    row * blocks as usize + (column / COLUMNS) as usize
 }
 
 /// Puts a block after the others. The result is its number. More blocks than can be numbered are allocation failure.

@@ -47,7 +47,7 @@ impl<'a, const W: usize> Net<'a, W> {
         program_nets_begin();
         words_are_words(input);
         let board = make_board(alloc, p, f, touch, l, input)?;
-        let room = longest_line(p.execs.as_slice())?;
+        let room = longest_line(p.execs.as_slice());
         let control = first_control(&board);
         Ok(Net {
             lines: first_places(alloc, &board.plan)?,

@@ -13,13 +13,13 @@ overflow_cast-class c =
     let e = c.loop-e.e in
     let few : length c.loop-e.names.keys ≤ e = c.loop-e.invariant.few in
     let place : position_or_len (same_names (name tops c.args.sizes.now e)) c.loop-e.names.keys ≤ length c.loop-e.names.keys = place_within same_names no_name (name tops c.args.sizes.now e) c.loop-e.names.keys in
-    let is : c.in-Ok.class ≡ position_or_len (same_names (name tops c.args.sizes.now e)) c.loop-e.names.keys = c.in-Ok.ensures.index in
+    let is : c.in_ok-class.class ≡ position_or_len (same_names (name tops c.args.sizes.now e)) c.loop-e.names.keys = c.in_ok-class.ensures.index in
     omega (arith, few, place, is, c.loop-e-test.true, c.requires.few)
 
 pub loop-e-preserved : goal.loop-e-preserved
 loop-e-preserved c =
     rw c.in_ok-push.ensures.items
-    (IsNamed-next c.args.tops.now c.args.sizes.now c.loop-e.e c.in-Ok.class c.loop-e.names.keys c.insert_full.new.self.keys c.loop-e.classes.items c.loop-e.invariant c.in-Ok.ensures.keys c.in-Ok.ensures.index)
+    (IsNamed-next c.args.tops.now c.args.sizes.now c.loop-e.e c.in_ok-class.class c.loop-e.names.keys c.insert_full.new.self.keys c.loop-e.classes.items c.loop-e.invariant c.in_ok-class.ensures.keys c.in_ok-class.ensures.index)
 
 pub returns : goal.returns
 returns c =

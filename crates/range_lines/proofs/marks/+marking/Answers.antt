@@ -27,7 +27,7 @@ mark_access-loop-sub-preserved t c =
       counted = omega (arith, counted);
       as_many = kept.as_many;
       expressions = kept.expressions;
-      rest = bound-next names c.args.current.now c.args.k c.loop-sub.row c.mark.new.row c.push_flag.new.row (c.args.row.now ++ bound_flags names c.args.current.now c.args.k dims subs) dims subs c.loop-sub.at (get_or dims c.loop-sub.at no_dim) c.sub-item.result in_dims in_subs (same-item dims c.loop-sub.at no_dim (get_or dims c.loop-sub.at no_dim) in_dims) (c.sub-item.is ∙ ap (λ j. get_or subs j c.sub-item.result) (sym counted)) kept.rest c.in_ok-mark.ensures (c.in_ok-push_flag.ensures ∙ ap (λ flag. c.mark.new.row ++ flag ∷ []) c.is_seen.ensures);
+      rest = bound-next names c.args.current.now c.args.k c.loop-sub.row c.mark.new.row c.push.new.self (c.args.row.now ++ bound_flags names c.args.current.now c.args.k dims subs) dims subs c.loop-sub.at (get_or dims c.loop-sub.at no_dim) c.sub-item.result in_dims in_subs (same-item dims c.loop-sub.at no_dim (get_or dims c.loop-sub.at no_dim) in_dims) (c.sub-item.is ∙ ap (λ j. get_or subs j c.sub-item.result) (sym counted)) kept.rest c.in_ok-mark.ensures (c.in_ok-push.ensures ∙ ap (λ flag. c.mark.new.row ++ flag ∷ []) c.is_seen.ensures);
     }
 
 pub mark_access-returns : goal.mark_access-returns

@@ -12,16 +12,6 @@ push_reserved-requires c =
     let room = c.self.invariant.filled_room in
     search (rules, left, room)
 
-pub overflow_cast-number : goal.overflow_cast-number
-overflow_cast-number c =
-    let within : c.args.block < length c.self.inside.numbers.items = omega (arith, ap (λ (b : Blocks). length b.numbers) c.self.view_is, c.requires.block) in
-    let none : get_or c.self.inside.numbers.items c.args.block 0 ≡ 0 = ap (λ (b : Blocks). get_or b.numbers c.args.block 0) c.self.view_is ∙ c.requires.none in
-    let left : length c.self.inside.filled.items < length c.self.inside.numbers.items = some_left c.self.inside.numbers.items c.args.block (length c.self.inside.filled.items) c.self.invariant.numbered within none in
-    let size : length c.push_reserved.new.self.items ≡ length c.self.inside.filled.items + 1 = ap length c.push_reserved.ensures.items ∙ length-append c.self.inside.filled.items (c.empty.result ∷ []) in
-    let is : c.len-number.result ≡ length c.self.inside.filled.items + 1 = search (rules, c.len-number.ensures, size) in
-    let few = c.self.invariant.few in
-    search (rules, left, few, is)
-
 pub invariant_of-self : goal.invariant_of-self
 invariant_of-self c =
     let within : c.args.block < length c.self.inside.numbers.items = omega (arith, ap (λ (b : Blocks). length b.numbers) c.self.view_is, c.requires.block) in
@@ -32,7 +22,6 @@ invariant_of-self c =
     let kept = c.self.invariant in
     let same : length (set c.self.inside.numbers.items c.args.block c.len-number.result) ≡ length c.self.inside.numbers.items = length-set c.self.inside.numbers.items c.args.block c.len-number.result in
     record {
-      few = (let few = kept.few in omega (arith, few, same));
       numbered = are_numbered_more c.self.inside.numbers.items c.args.block within none (length c.self.inside.filled.items) kept.numbered c.len-number.result is (length c.push_reserved.new.self.items) size;
       words = (let room = kept.words_room in let before = kept.words in let ok = c.resize-grown.ensures.succeeds (omega (arith, room, left, is)) in search (rules, ok, is, size));
       filled_room = (let room = kept.filled_room in let cap = c.push_reserved.ensures.capacity in omega (arith, room, same, cap));

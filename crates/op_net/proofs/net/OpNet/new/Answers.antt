@@ -17,7 +17,7 @@ invariant_of-result-2 g c =
     let x : OperationNet = operations_in c.in_ok-graph.graph.plan in
     let same : x.net ≡ net_with c.args.p.now c.args.input.now.items (touches_in c.args.touch.now) c.args.l.now = c.in_ok-graph.ensures.net in
     let taken = ap (λ (m : Memory). m.taken) c.in_ok-initial_storage.ensures in
-    let room : most_room x.net.program.execs ≡ c.in_ok-room.room = ap (λ (net : NetOf). most_room net.program.execs) same ∙ ap most_room (sym c.as_slice.ensures.items) ∙ sym c.in_ok-room.ensures in
+    let room : most_room x.net.program.execs ≡ c.longest_line-room.result = ap (λ (net : NetOf). most_room net.program.execs) same ∙ ap most_room (sym c.as_slice.ensures.items) ∙ sym c.longest_line-room.ensures in
     record {
       own_places = own_places x c.in_ok-places.places c.in_ok-places.ensures (c.operation_nets_begin_soundly.ensures x c.in_ok-graph.ensures.is_net);
       counted = not_counted x c.in_ok-places.places c.in_ok-places.ensures;

@@ -2,6 +2,14 @@ use Rattle.std.proofs.Common.{◌∙◌, sym, arith}
 use Rattle.shared_rows.proofs.Standing.{block_exists, block_read, cell_of_block, is_row, is_column, number_at, place_within, within_row}
 use Rattle.shared_rows.proofs.rows.SharedRows.get.Goals as goal
 
+pub place-requires : goal.place-requires
+place-requires c =
+    let d = c.self.inside in
+    let row = is_row d c.args.self.now c.self.view_is c.args.row c.requires.row in
+    let column = is_column d c.args.self.now c.self.view_is c.args.column c.requires.column in
+    let within = place_within d c.self.invariant c.args.row c.args.column row column in
+    omega (arith, within, d.numbers.ok.0)
+
 pub index-block-requires : goal.index-block-requires
 index-block-requires c =
     let d = c.self.inside in

@@ -2,9 +2,30 @@ use Rattle.std.proofs.Common.{◌≡◌, ◌+◌, ◌∙◌, ◌++◌, List, ℕ
 use Rattle.std.specs.List.{slice_range}
 use Rattle.shared_rows.specs.Blocks.{AreKept, rows}
 use Rattle.shared_rows.specs.Table.{Table, row_at, with_row}
-use Rattle.shared_rows.proofs.Standing.{is_row}
+use Rattle.shared_rows.proofs.Standing.{few_rows, is_row}
 use Rattle.shared_rows.proofs.Pushing.{copied_kept, copied_rows, copied_size, part, part_within}
 use Rattle.shared_rows.proofs.rows.SharedRows.push_copy.Goals as goal
+
+pub place-first-requires : goal.place-first-requires
+place-first-requires c =
+    let d = c.self.inside in
+    let within = part_within d c.self.invariant c.args.row (is_row d c.args.self.now c.self.view_is c.args.row c.requires) in
+    omega (arith, within, d.numbers.ok.0)
+
+pub overflow_add-first : goal.overflow_add-first
+overflow_add-first c =
+    let d = c.self.inside in
+    let within = part_within d c.self.invariant c.args.row (is_row d c.args.self.now c.self.view_is c.args.row c.requires) in
+    let at = c.place-first.ensures in
+    omega (arith, within, at, d.numbers.ok.0)
+
+pub overflow_add-self : goal.overflow_add-self
+overflow_add-self c =
+    let d = c.self.inside in
+    let row = is_row d c.args.self.now c.self.view_is c.args.row c.requires in
+    let items : c.extend_from_within.new.self.items ≡ d.numbers.items ++ part d c.self.invariant c.args.row row = c.in_ok-extend_from_within.ensures.items ∙ ap (λ i. d.numbers.items ++ slice_range d.numbers.items i (i + d.blocks)) c.place-first.ensures in
+    let size = few_rows d c.self.invariant (d.count + 1) c.extend_from_within.new.self.items (ap length items ∙ copied_size d c.self.invariant c.args.row row) in
+    omega (arith, size, c.extend_from_within.new.self.ok.0)
 
 pub extend_from_within-requires-clause-in_bounds : goal.extend_from_within-requires-clause-in_bounds
 extend_from_within-requires-clause-in_bounds c =

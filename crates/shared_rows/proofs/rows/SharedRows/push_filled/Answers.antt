@@ -1,8 +1,19 @@
-use Rattle.std.proofs.Common.{◌≡◌, ◌+◌, ◌∙◌, ◌++◌, List, ℕ, ◌*◌, length, replicate, sym, ap, subst}
+use Rattle.std.proofs.Common.{◌≡◌, ◌+◌, ◌∙◌, ◌++◌, List, ℕ, ◌*◌, length, replicate, sym, ap, subst, arith}
 use Rattle.shared_rows.specs.Blocks.{AreKept, rows}
 use Rattle.shared_rows.specs.Table.{Table, with_row}
 use Rattle.shared_rows.proofs.Pushing.{filled, filled_kept, filled_rows, filled_size, filled_up}
+use Rattle.shared_rows.proofs.Standing.{few_rows}
 use Rattle.shared_rows.proofs.rows.SharedRows.push_filled.Goals as goal
+
+pub overflow_add-self : goal.overflow_add-self
+overflow_add-self c =
+    let d = c.self.inside in
+    let pushed = c.in_ok-block.ensures.ok in
+    let items : c.resize.new.self.items ≡ d.numbers.items ++ filled d c.self.invariant c.args.number =
+    filled_up d.numbers.items c.reserve.new.self.items c.resize.new.self.items c.len.result c.reserve.new.self.len d.blocks c.in_ok-block.block (length d.pool.items)
+    c.in_ok-resize.ensures.items c.reserve.ensures.items c.len.ensures c.reserve.new.self.ok.0 pushed.0 in
+    let size = few_rows d c.self.invariant (d.count + 1) c.resize.new.self.items (ap length items ∙ filled_size d c.self.invariant c.args.number) in
+    omega (arith, size, c.resize.new.self.ok.0)
 
 pub invariant_of-self-2 : goal.invariant_of-self-2
 invariant_of-self-2 c =

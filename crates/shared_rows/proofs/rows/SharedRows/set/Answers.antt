@@ -5,6 +5,14 @@ use Rattle.shared_rows.proofs.Standing.{is_row, is_column, place_within}
 use Rattle.shared_rows.proofs.Writing.{own_exists, same_rows, written_rows}
 use Rattle.shared_rows.proofs.rows.SharedRows.set.Goals as goal
 
+pub place-i-requires : goal.place-i-requires
+place-i-requires c =
+    let d = c.self.inside in
+    let row = is_row d c.args.self.now c.self.view_is c.args.row c.requires.row in
+    let column = is_column d c.args.self.now c.self.view_is c.args.column c.requires.column in
+    let within = place_within d c.self.invariant c.args.row c.args.column row column in
+    omega (arith, within, d.numbers.ok.0)
+
 pub own_block-requires-clause-place : goal.own_block-requires-clause-place
 own_block-requires-clause-place c =
     let d = c.self.inside in

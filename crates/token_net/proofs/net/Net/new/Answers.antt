@@ -18,7 +18,7 @@ invariant_of-result g c =
     let net : NetOf = net_on board in
     let same : net ≡ net_with c.args.p.now c.args.input.now.items (touches_in c.args.touch.now) c.args.l.now = c.in_ok-board.ensures in
     let taken = ap (λ (m : Memory). m.taken) c.in_ok-initial_storage.ensures in
-    let room : most_room net.program.execs ≡ c.in_ok-room.room = ap (λ (x : NetOf). most_room x.program.execs) same ∙ ap most_room (sym c.as_slice.ensures.items) ∙ sym c.in_ok-room.ensures in
+    let room : most_room net.program.execs ≡ c.longest_line-room.result = ap (λ (x : NetOf). most_room x.program.execs) same ∙ ap most_room (sym c.as_slice.ensures.items) ∙ sym c.longest_line-room.ensures in
     let lines : net.routing.lines ≡ c.lines.result = ap (λ (x : NetOf). x.routing.lines) same ∙ sym c.lines.ensures in
     let set = ap length c.in_ok-with_room.ensures ∙ length-replicate c.nodes-2.result Rattle.std.proofs.Common.false ∙ c.nodes-2.ensures in
     record {
