@@ -9,3 +9,4 @@ pub mod Spans
 pub mod Walk
 pub mod WriteLaws
 pub mod Writes
+pub mod Covering

@@ -3,6 +3,10 @@ use Rattle.std.specs.Prelude.{◌≡◌, ◌≢◌, ℕ, ◌+◌, ◌-◌, ◌<�
 use Rattle.std.specs.List.{position_or_len}
 use Rattle.indexmap.specs.IndexSet.{insert_key}
 use Rattle.alias_classes.specs.Classes.{IsMet, IsNextNumber, SameNames}
+use Rattle.alias_classes.specs.Spans.{Holds}
+use Rattle.alias_classes.specs.declared.spans.Spans.{Spans}
+use Rattle.alias_classes.specs.declared.walk.Marks.{Marks}
+use Rattle.alias_classes.specs.declared.walk.Walk.{Walk}
 
 -- what tells the class of a word: one more than the last place at which a name begins that covers it, and the same from the
 -- end of the store
@@ -54,3 +58,7 @@ module _ (covers : ℕ → ℕ → Type 0) (key : ℕ → ℕ × ℕ) where
 pub record KeysTell (covers : ℕ → ℕ → Type 0) (key : ℕ → ℕ × ℕ) (words : ℕ) : Type 0 where
   pub names : (v w : ℕ) → v < words → w < words → key v ≡ key w → SameNames covers v w
   pub keys : (v w : ℕ) → v < words → w < words → SameNames covers v w → key v ≡ key w
+
+-- the walk through the names with these spans comes to the name k
+abbrev pub IsWalkedTo : Marks → Spans → ℕ → Walk → Type 0
+IsWalkedTo marks spans k walk = IsWalked (Holds spans.begins.items spans.ends.items) (key_of marks.words marks.forth.items marks.back.items) k 0 walk.numbers.items walk.keys.keys

@@ -1,10 +1,10 @@
 //! The classes of a program are made.
 
-ghost use Rattle.std.specs.Prelude.{◌≡◌, ◌≤◌, ◌<◌, ◌+◌, ◌*◌, ℕ, length, slice_index, IfOk, slice_index_or};
+ghost use Rattle.std.specs.Prelude.{◌≡◌, ◌≤◌, ◌<◌, ◌+◌, ◌*◌, ℕ, length, slice_index, IfOk};
 ghost use Rattle.class_set.specs.declared.ClassSet.{ClassSet};
 ghost use Rattle.class_set.specs.Members.{IsWidth};
 ghost use Rattle.alias_classes.specs.Classes.{IsNumbering};
-ghost use Rattle.alias_classes.specs.Runs.{IsSetOf};
+ghost use Rattle.alias_classes.specs.Runs.{AreSetsOf};
 ghost use Rattle.alias_classes.specs.Spans.{AreSpans, Holds};
 ghost use Rattle.alias_classes.specs.Walk.{KeysTell, key_of};
 
@@ -72,7 +72,7 @@ pub(crate) fn name_sets<const W: usize>(
     requires short { length numbers.now.items ≤ 262144 }
     requires few { (v : ℕ) → slice_index numbers.now.items v < 64 * W }
     ensures count { IfOk result (λ sets. length sets.items ≡ length spans.now.begins.items) }
-    ensures each { IfOk result (λ sets. (k : ℕ) (d : ClassSet W) → k < length spans.now.begins.items → IsSetOf numbers.now.items (slice_index spans.now.begins.items k) (slice_index spans.now.ends.items k) (slice_index_or sets.items k d)) }
+    ensures each { IfOk result (λ sets. AreSetsOf numbers.now.items spans.now.begins.items spans.now.ends.items sets.items) }
 {
     let starts = starts(alloc, numbers)?;
     let mut sets = Vec::new(alloc);

@@ -1,8 +1,8 @@
 //! The classes of each name, from runs of words of one class.
 
-ghost use Rattle.std.specs.Prelude.{◌≡◌, ◌≤◌, ◌<◌, ◌-◌, ◌*◌, ◌==◌, ◌&&◌, if◌then◌else◌, nat_lt, ℕ, length, slice_index, IfOk};
+ghost use Rattle.std.specs.Prelude.{◌≡◌, ◌≤◌, ◌<◌, ◌-◌, ◌*◌, ◌==◌, ◌&&◌, if◌then◌else◌, ℕ, length, slice_index, IfOk};
 ghost use Rattle.class_set.specs.Members.{IsWidth};
-ghost use Rattle.alias_classes.specs.Runs.{AreStarts, IsSetOf};
+ghost use Rattle.alias_classes.specs.Runs.{AreStarts, IsSetOf, is_after_its_like};
 
 use class_set::ClassSet;
 use df_sequence::NoMemory;
@@ -25,7 +25,7 @@ fn start(numbers: &Vec<usize>, starts: &Vec<u32>, word: usize) -> u32
     requires known { length starts.now.items ≡ word }
     requires inside { word < length numbers.now.items }
     requires few { length numbers.now.items ≤ 262144 }
-    ensures { result ≡ (if nat_lt 0 word && slice_index numbers.now.items (word - 1) == slice_index numbers.now.items word then slice_index starts.now.items (word - 1) else word) }
+    ensures { result ≡ (if is_after_its_like numbers.now.items word then slice_index starts.now.items (word - 1) else word) }
 {
     if 0 < word && numbers[word - 1] == numbers[word] {
         starts[word - 1]

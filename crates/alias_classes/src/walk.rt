@@ -1,8 +1,8 @@
 //! The walk through the words of names in order, which numbers the classes of words.
 
-ghost use Rattle.std.specs.Prelude.{◌≡◌, ◌≤◌, ◌<◌, ◌+◌, ℕ, [], length, slice_index, OnOk, IfOk};
-ghost use Rattle.alias_classes.specs.Spans.{AreSpans, Holds};
-ghost use Rattle.alias_classes.specs.Walk.{key_of, IsMarked, AreSkips, IsWalked};
+ghost use Rattle.std.specs.Prelude.{◌≡◌, ◌≤◌, ◌<◌, ◌+◌, ℕ, length, slice_index, OnOk, IfOk};
+ghost use Rattle.alias_classes.specs.Spans.{AreSpans};
+ghost use Rattle.alias_classes.specs.Walk.{key_of, IsMarked, AreSkips, IsWalkedTo};
 
 use crate::spans::Spans;
 use df_sequence::NoMemory;
@@ -55,9 +55,7 @@ fn mark(
     ensures { OnOk result (IsMarked word key numbers.old.items keys.old.keys numbers.new.items keys.new.keys) }
 {
     if numbers[word as usize] == 0 {
-        let Ok((place, _)) = keys.insert_full(key) else {
-            return Err(NoMemory);
-        };
+        let (place, _) = keys.insert_full(key)?;
         prove!(place < keys.len());
         numbers[word as usize] = place + 1;
     }
@@ -89,10 +87,10 @@ fn walk_name(walk: &mut Walk, marks: &Marks, spans: &Spans, k: usize) -> Result<
     requires back { length marks.now.back.items ≡ marks.now.words + 1 }
     requires each { length walk.old.numbers.items ≡ marks.now.words }
     requires skips { AreSkips walk.old.numbers.items walk.old.skips.items }
-    requires walked { IsWalked (Holds spans.now.begins.items spans.now.ends.items) (key_of marks.now.words marks.now.forth.items marks.now.back.items) k 0 walk.old.numbers.items walk.old.keys.keys }
+    requires walked { IsWalkedTo marks.now spans.now k walk.old }
     ensures each { OnOk result (length walk.new.numbers.items ≡ marks.now.words) }
     ensures skips { OnOk result (AreSkips walk.new.numbers.items walk.new.skips.items) }
-    ensures walked { OnOk result (IsWalked (Holds spans.now.begins.items spans.now.ends.items) (key_of marks.now.words marks.now.forth.items marks.now.back.items) (k + 1) 0 walk.new.numbers.items walk.new.keys.keys) }
+    ensures walked { OnOk result (IsWalkedTo marks.now spans.now (k + 1) walk.new) }
 {
     let end = spans.ends[k];
     let mut word = spans.begins[k];
@@ -122,7 +120,7 @@ pub(crate) fn walk_names(alloc: Global, marks: &Marks, spans: &Spans) -> Result<
     requires forth { length marks.now.forth.items ≡ marks.now.words + 1 }
     requires back { length marks.now.back.items ≡ marks.now.words + 1 }
     ensures each { IfOk result (λ walk. length walk.numbers.items ≡ marks.now.words) }
-    ensures walked { IfOk result (λ walk. IsWalked (Holds spans.now.begins.items spans.now.ends.items) (key_of marks.now.words marks.now.forth.items marks.now.back.items) (length spans.now.begins.items) 0 walk.numbers.items walk.keys.keys) }
+    ensures walked { IfOk result (λ walk. IsWalkedTo marks.now spans.now (length spans.now.begins.items) walk) }
 {
     let mut walk = Walk {
         numbers: vec![in alloc; 0; marks.words as usize]?,

@@ -1,5 +1,5 @@
 -- Where each edge begins and ends after holds on different edges.
-use Rattle.std.proofs.Common.{◌≡◌, ◌≢◌, ℕ, zero, suc, ◌+◌, ◌<◌, ◌≤◌, ◌⊎◌, List, length, get_or, take, fold, refl, sym, ap, ◌∙◌, subst, ⊎_elim, arith}
+use Rattle.std.proofs.Common.{◌≡◌, ◌≢◌, ℕ, zero, suc, ◌+◌, ◌<◌, ◌≤◌, ◌⊎◌, List, length, get_or, take, fold, sym, ap, ◌∙◌, subst, ⊎_elim, arith}
 use Rattle.std.proofs.lemmas.List.{take_all}
 use Rattle.std.proofs.lemmas.List.Sums.{fold_more}
 use Rattle.closed_walks.specs.Graph.{Graph, edge_count, from, to}
@@ -31,17 +31,7 @@ module _ (g : Graph) (finish : ℕ) (edge_of : ℕ → ℕ) (hs : List ℕ) wher
     pub to_leave : (q : ℕ) → q < count → to f (stay_of q + 1) ≡ finish
 
   pub none : AfterHolds 0 g
-  none = record {
-    nodes = omega arith;
-    edges = omega arith;
-    tails = λ k old. refl;
-    free = λ k old apart. refl;
-    held = λ q few. absurd (omega (arith, few));
-    from_stay = λ q few. absurd (omega (arith, few));
-    from_leave = λ q few. absurd (omega (arith, few));
-    to_stay = λ q few. absurd (omega (arith, few));
-    to_leave = λ q few. absurd (omega (arith, few));
-  }
+  none = grind (arith, to_stay, to_leave)
 
   module _ (exist : (q : ℕ) → q < length hs → edge_at q < edge_count g) (apart : (q p : ℕ) → q < p → p < length hs → edge_at q ≢ edge_at p) where
     module _ (p : ℕ) (more : p < length hs) (f : Graph) (h : AfterHolds p f) where

@@ -107,10 +107,7 @@ module _ (g : Graph) (x : ℕ) where
 
     module _ (stands : (e : ℕ) → e < edge_count g → test (get_or g.edges e (0, 0)) ≡ true → StandsIn (edges_at g x) e) where
       fails_at : (e : ℕ) → e < edge_count g → ((i : ℕ) → i < length (edges_at g x) → test (get_or g.edges (get_or (edges_at g x) i 0) (0, 0)) ≡ false) → test (get_or g.edges e (0, 0)) ≡ false
-      fails_at e l none = false_from_ne_true (test (get_or g.edges e (0, 0)))
-          (λ passes.
-          let s : StandsIn (edges_at g x) e = stands e l passes in
-          false≢true (sym (none s.place s.exists) ∙ ap (λ n. test (get_or g.edges n (0, 0))) s.is ∙ passes))
+      fails_at e l none = grind (arith, false_from_ne_true (test (get_or g.edges e (0, 0))))
 
       pub any_none : ((i : ℕ) → i < length (edges_at g x) → test (get_or g.edges (get_or (edges_at g x) i 0) (0, 0)) ≡ false) → list_any test g.edges ≡ false
       any_none none = list_any_none test g.edges (λ k d l. ap test (get_or_default g.edges k d (0, 0) l) ∙ fails_at k l none)
@@ -118,20 +115,7 @@ module _ (g : Graph) (x : ℕ) where
       pub first_found : (i : ℕ) → i < length (edges_at g x) → test (get_or g.edges (get_or (edges_at g x) i 0) (0, 0)) ≡ true
           → ((k : ℕ) → k < i → test (get_or g.edges (get_or (edges_at g x) k 0) (0, 0)) ≡ false)
           → get_or (edges_at g x) i 0 ≡ position_or_len test g.edges
-      first_found i l passes before =
-          let e = get_or (edges_at g x) i 0 in
-          sym (position_or_len_is test g.edges e (0, 0) (let below = at_edge i l in omega (arith, below))
-          (λ k less. false_from_ne_true (test (get_or g.edges k (0, 0)))
-          (λ passes'.
-          let below = at_edge i l in
-          let s : StandsIn (edges_at g x) k = stands k (omega (arith, less, below)) passes' in
-          ⊎_elim
-          (λ (same : s.place ≡ i). let is : get_or (edges_at g x) i 0 ≡ k = ap (λ n. get_or (edges_at g x) n 0) (sym same) ∙ s.is in omega (arith, is, less))
-          (⊎_elim
-          (λ (earlier : s.place < i). false≢true (sym (before s.place earlier) ∙ ap (λ n. test (get_or g.edges n (0, 0))) s.is ∙ passes'))
-          (λ (later : i < s.place). let rise = edges_rise i s.place later s.exists in omega (arith, rise, s.is, less)))
-          (cases_order s.place i)))
-          (λ _. passes))
+      first_found i l passes before = grind (arith, position_or_len_is test g.edges, at_edge i l, false_from_ne_true, edges_rise i)
 
       pub first_missing : position_or_len test g.edges < edge_count g → ((i : ℕ) → i < length (edges_at g x) → test (get_or g.edges (get_or (edges_at g x) i 0) (0, 0)) ≡ false) → ⊥
       first_missing some none = false≢true (sym (fails_at (position_or_len test g.edges) some none) ∙ passes_at_first test g.edges (0, 0) some)

@@ -1,6 +1,6 @@
 -- Which pieces get a hold, piece after piece.
 use Rattle.std.proofs.Common.{◌≡◌, ◌↔◌, ℕ, zero, suc, ◌+◌, ◌<◌, ◌≤◌, ◌⊎◌, Bool, true, false, cond, not, ◌&&◌, ◌==◌, nat_le, List, [], ◌∷◌, ◌++◌, length, get_or, filter, Result, Ok, Err, OnOk, refl, sym, ap, ◌∙◌, subst, inl, inr, ⊎_elim, arith}
-use Rattle.std.proofs.lemmas.Bool.{cases_Bool, cases_lt, and_parts, and_from, not-true, not_from_false, eq-eqb, le-leb, false≢true}
+use Rattle.std.proofs.lemmas.Bool.{cases_Bool, cases_lt, and_parts, and_from, not-true, not_from_false, eq-eqb, le-leb}
 use Rattle.std.proofs.lemmas.List.{append-nil, get_or_append_left, get_or_push, length_push}
 use Rattle.std.proofs.lemmas.List.Elements.{filter-append}
 use Rattle.std.specs.List.{range_with_len}
@@ -8,17 +8,15 @@ use Rattle.closed_walks.specs.Graph.{Graph, IsGraph, edge_count, from, to}
 use Rattle.closed_walks.specs.Reaching.{reaches}
 use Rattle.cfg_build.specs.Holds.{is_on_cycle, reaches_lower_cycle, is_held}
 use Rattle.cfg_build.specs.Tables.{is_entered_from_above, ReachesOne, Leaves, AreHeldBelow}
-use Rattle.list_laws.specs.Member.{Member}
-use Rattle.list_laws.proofs.Members.{IsAt, at_of, Member-at, Member-filter, Member-filtered, Member-range, Member-in_range, list_any_member, IsPassed, member_of_list_any}
+use Rattle.list_laws.proofs.Members.{at_of, Member-at, Member-filter, Member-filtered, Member-range, Member-in_range, list_any_member, IsPassed, member_of_list_any}
 use Rattle.cfg_build.proofs.Lowest.{is_on_cycle_from, IsHeldBy, held_says}
 use Rattle.cfg_build.proofs.ReachedNodes.{IsTold, Reaches, stay, join, along, along_last, kept}
 use Rattle.list_laws.proofs.Ranges.{range_last}
+use Rattle.std.proofs.lemmas.Grind.{elements}
 
 -- two tests that pass alike are the same
 pub same_Bool : (a b : Bool) → (a ≡ true → b ≡ true) → (b ≡ true → a ≡ true) → a ≡ b
-same_Bool true b forth back = sym (forth refl)
-same_Bool false true forth back = back refl
-same_Bool false false forth back = refl
+same_Bool h b forth back = grind arith
 
 -- what follows of what holds without an error
 pub then_on_ok : {A E P Q : Type 0} (result : Result A E) → (P → Q) → OnOk result P → OnOk result Q
@@ -46,10 +44,7 @@ module _ (told : IsTold) (g : Graph) (sound : IsGraph g) (finish : ℕ) (finish_
   below x = filter (is_held g finish) (range_with_len 0 x)
 
   one_of : (x y z : ℕ) → z < x → is_held g finish z ≡ true → Reaches g y z → ReachesOne g (below x) y
-  one_of x y z less held r =
-      let m : Member (below x) z = Member-filter (is_held g finish) (range_with_len 0 x) z (Member-range 0 x z (omega arith) (omega (arith, less))) held in
-      let at : IsAt (below x) z = at_of (below x) z m in
-      record { place = at.place; exists = at.exists; reach = subst (λ n. Reaches g y n) (sym (at.is 0)) r }
+  one_of x y z less held r = grind (arith, Member-filter (is_held g finish) (range_with_len 0 x) z, Member-range 0 x z, at_of (below x) z)
 
   -- what one of the nodes below reaches leaves, each node that reaches it does
   leaves_before : (x y z : ℕ) → Reaches g y z → Leaves g finish (below x) z → Leaves g finish (below x) y
@@ -71,10 +66,7 @@ module _ (told : IsTold) (g : Graph) (sound : IsGraph g) (finish : ℕ) (finish_
 
   -- the definition, part by part
   held_from : (x : ℕ) → is_on_cycle g x ≡ true → reaches g x finish ≡ false → reaches_lower_cycle g x ≡ false → is_held g finish x ≡ true
-  held_from x cycle end lower =
-      and_from (is_on_cycle g x && not (reaches g x finish)) (not (reaches_lower_cycle g x))
-      (and_from (is_on_cycle g x) (not (reaches g x finish)) cycle (not_from_false (reaches g x finish) end))
-      (not_from_false (reaches_lower_cycle g x) lower)
+  held_from x cycle end lower = cc
 
   -- a piece on a cycle reaches the end, or one that is held and isn't higher
   cycle_leaves : (most y x : ℕ) → y < most → y < x → x < g.nodes → is_on_cycle g y ≡ true → Leaves g finish (below x) y
@@ -107,12 +99,7 @@ module _ (told : IsTold) (g : Graph) (sound : IsGraph g) (finish : ℕ) (finish_
   held_stays : (x : ℕ) → x < g.nodes → is_held g finish x ≡ true → Leaves g finish (below x) x → ⊥
   held_stays x node held (inl end) = (held_says told g sound finish x node held).stuck end
   held_stays x node held (inr one) =
-      let says : IsHeldBy told g sound finish x = held_says told g sound finish x node held in
-      let z : ℕ = get_or (below x) one.place 0 in
-      let r = Member-filtered (is_held g finish) (range_with_len 0 x) z (Member-at (below x) one.place 0 one.exists) in
-      let within = Member-in_range 0 x z r.0 in
-      let less : z < x = omega (arith, within.1) in
-      says.lowest z less (held_says told g sound finish z (omega (arith, less, node)) r.1).on_cycle one.reach
+      grind (arith, held_says told g sound finish x node held, Member-filtered (is_held g finish) (range_with_len 0 x), Member-at (below x) one.place 0 one.exists, Member-in_range 0 x, held_says told g sound finish)
 
   -- an edge from a node that isn't lower comes to a held piece
   held_entered : (x : ℕ) → x < g.nodes → is_held g finish x ≡ true → is_entered_from_above g x ≡ true
@@ -135,16 +122,7 @@ module _ (told : IsTold) (g : Graph) (sound : IsGraph g) (finish : ℕ) (finish_
 
   -- what the code tests tells whether a piece is held
   pub stays_is_held : (x : ℕ) (mark : Bool) → x < g.nodes → (mark ≡ true) ↔ Leaves g finish (below x) x → (not mark && (is_entered_from_above g x && is_on_cycle g x)) ≡ is_held g finish x
-  stays_is_held x mark node marked =
-      same_Bool (not mark && (is_entered_from_above g x && is_on_cycle g x)) (is_held g finish x)
-      (λ h.
-      let parts = and_parts (not mark) (is_entered_from_above g x && is_on_cycle g x) h in
-      let more = and_parts (is_entered_from_above g x) (is_on_cycle g x) parts.1 in
-      stays_held x node (λ leaves. false≢true (sym (not-true mark parts.0) ∙ marked.1 leaves)) more.1)
-      (λ held.
-      and_from (not mark) (is_entered_from_above g x && is_on_cycle g x)
-      (not_from_false mark (⊎_elim (λ (h : mark ≡ true). absurd (held_stays x node held (marked.0 h))) (λ h. h) (cases_Bool mark)))
-      (and_from (is_entered_from_above g x) (is_on_cycle g x) (held_entered x node held) (held_says told g sound finish x node held).on_cycle))
+  stays_is_held x mark node marked = search (same_Bool, stays_held, not-true, and_from, not_from_false, held_stays, held_entered, held_says, arith)
 
   -- ---- one piece more
 
@@ -155,10 +133,7 @@ module _ (told : IsTold) (g : Graph) (sound : IsGraph g) (finish : ℕ) (finish_
       ap below next ∙ ap (filter (is_held g finish)) (range_last 0 x ∙ ap (λ n. range_with_len 0 x ++ n ∷ []) at) ∙ filter-append (is_held g finish) (range_with_len 0 x) (x ∷ [])
 
   pub none_more : (x : ℕ) (held : List ℕ) (marks : List Bool) → is_held g finish x ≡ false → AreHeldBelow g finish x held marks → AreHeldBelow g finish (x + 1) held marks
-  none_more x held marks not_held before = record {
-    pieces = before.pieces ∙ sym (append-nil (below x)) ∙ sym (ap (λ b. below x ++ cond b (x ∷ []) []) not_held) ∙ sym (filter_more x);
-    leaving = before.leaving;
-  }
+  none_more x held marks not_held before = grind (arith, append-nil (below x), filter_more x)
 
   one_with : (held : List ℕ) (x y : ℕ) → Reaches g y x → ReachesOne g (held ++ x ∷ []) y
   one_with held x y r = record { place = length held; exists = omega (arith, length_push held x); reach = subst (λ n. Reaches g y n) (sym (get_or_push held x 0 (length held) refl)) r }
@@ -167,10 +142,7 @@ module _ (told : IsTold) (g : Graph) (sound : IsGraph g) (finish : ℕ) (finish_
   one_without held x y one = record { place = one.place; exists = omega (arith, one.exists, length_push held x); reach = subst (λ n. Reaches g y n) (sym (get_or_append_left held (x ∷ []) 0 one.place one.exists)) one.reach }
 
   one_back : (held : List ℕ) (x y : ℕ) → ReachesOne g (held ++ x ∷ []) y → ReachesOne g held y ⊎ Reaches g y x
-  one_back held x y one = ⊎_elim
-      (λ (prefix : one.place < length held). inl (record { place = one.place; exists = prefix; reach = subst (λ n. Reaches g y n) (get_or_append_left held (x ∷ []) 0 one.place prefix) one.reach }))
-      (λ (last : length held ≤ one.place). inr (subst (λ n. Reaches g y n) (get_or_push held x 0 one.place (omega (arith, last, one.exists, length_push held x))) one.reach))
-      (cases_lt one.place (length held))
+  one_back held x y one = grind (arith, elements, get_or_push, length_push)
 
   pub one_more : (x : ℕ) (held : List ℕ) (marks new : List Bool) → is_held g finish x ≡ true → AreHeldBelow g finish x held marks
       → ((v : ℕ) → (get_or new v false ≡ true) ↔ ((get_or marks v false ≡ true) ⊎ Reaches g v x)) → AreHeldBelow g finish (x + 1) (held ++ x ∷ []) new
@@ -190,5 +162,4 @@ module _ (told : IsTold) (g : Graph) (sound : IsGraph g) (finish : ℕ) (finish_
 
   -- what the code tests, with the pieces held so far
   pub test_is_held : (x : ℕ) (held : List ℕ) (marks : List Bool) → x < g.nodes → AreHeldBelow g finish x held marks → (not (get_or marks x false) && (is_entered_from_above g x && is_on_cycle g x)) ≡ is_held g finish x
-  test_is_held x held marks node before =
-      stays_is_held x (get_or marks x false) node (subst (λ (hs : List ℕ). (get_or marks x false ≡ true) ↔ Leaves g finish hs x) before.pieces (before.leaving x))
+  test_is_held x held marks node before = grind (arith, stays_is_held x (get_or marks x false) node, before.leaving x)

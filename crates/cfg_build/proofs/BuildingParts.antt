@@ -1,8 +1,8 @@
 -- The parts of a program, executable by executable.
-use Rattle.std.proofs.Common.{◌≡◌, ℕ, ◌+◌, ◌<◌, ◌≤◌, true, false, List, [], ◌∷◌, ◌++◌, length, get_or, set, slice_index, Option, Some, None, ap, sym, ◌∙◌, refl, arith, ⊎_elim, cond}
+use Rattle.std.proofs.Common.{◌≡◌, ℕ, ◌+◌, ◌<◌, true, false, List, [], ◌∷◌, ◌++◌, length, get_or, set, slice_index, Option, Some, None, ap, sym, ◌∙◌, refl, arith, ⊎_elim, cond}
 use Rattle.std.proofs.lemmas.List.{append-nil, get_or-set_same, get_or-set_other}
 use Rattle.std.proofs.lemmas.List.Concat.{flat_map-append}
-use Rattle.std.proofs.lemmas.Bool.{cases_eq, cases_lt}
+use Rattle.std.proofs.lemmas.Bool.{cases_eq}
 use Rattle.std.proofs.lemmas.Option.{slice_get_past, same_Some}
 use Rattle.std.specs.List.{flat_map, range_with_len, slice_get}
 use Rattle.std.specs.Option.{option_map}
@@ -14,10 +14,7 @@ use Rattle.cfg_build.specs.Parts.{parts_in, reached_parts}
 use Rattle.list_laws.proofs.Ranges.{range_more}
 
 pub flat_map-range_more : {X : Type 0} (f : ℕ → List X) (k : ℕ) → flat_map f (range_with_len 0 (k + 1)) ≡ flat_map f (range_with_len 0 k) ++ f k
-flat_map-range_more f k =
-    ap (flat_map f) (range_more k)
-    ∙ flat_map-append f (range_with_len 0 k) (k ∷ [])
-    ∙ ap (λ xs. flat_map f (range_with_len 0 k) ++ xs) (append-nil (f k))
+flat_map-range_more f k = grind (arith, range_more k, flat_map-append f (range_with_len 0 k) (k ∷ []), append-nil (f k))
 
 -- the parts of an executable that is reached, and of one that isn't
 pub reached_parts-yes : (execs : List Exec) (k : ℕ) → is_reached execs k ≡ true → reached_parts execs k ≡ parts_in execs k (slice_get execs k)
@@ -43,11 +40,7 @@ none_numbered None is = refl
 none_numbered (Some loop) is = cc
 
 pub begun_exists : (execs : List Exec) (k : ℕ) (loop : Loop) → begun_at execs k ≡ Some loop → k < length execs
-begun_exists execs k loop is =
-    ⊎_elim
-    (λ (l : k < length execs). l)
-    (λ (past : length execs ≤ k). let none : begun_at execs k ≡ None = ap begun_in (slice_get_past execs k past) in absurd cc)
-    (cases_lt k (length execs))
+begun_exists execs k loop is = grind (arith, slice_get_past)
 
 module _ (execs : List Exec) (loops : ℕ) (are : AreLoops execs loops) where
   pub begun_number : (k n : ℕ) (exec : Exec) → slice_get execs k ≡ Some exec → option_map (λ (loop : Loop). loop.number) (begun exec.kind) ≡ Some n → n < loops

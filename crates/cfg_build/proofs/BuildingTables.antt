@@ -1,6 +1,6 @@
 -- Tables of targets.
-use Rattle.std.proofs.Common.{◌≡◌, ℕ, ◌+◌, ◌^◌, ◌<◌, ◌≤◌, true, false, cond, List, [], ◌∷◌, ◌++◌, length, take, get_or, flat_map, sum_by, count_by, ap, sym, ◌∙◌, arith, subst, ⊎_elim}
-use Rattle.std.proofs.lemmas.Bool.{cases_Bool, cases_order, cases_eq, false≢true, cond_both}
+use Rattle.std.proofs.Common.{◌≡◌, ℕ, ◌+◌, ◌^◌, ◌<◌, ◌≤◌, false, cond, List, length, take, get_or, flat_map, sum_by, count_by, ap, sym, ◌∙◌, arith}
+use Rattle.std.proofs.lemmas.Bool.{false≢true, cond_both}
 use Rattle.std.proofs.lemmas.List.{append-nil, take_more}
 use Rattle.std.proofs.lemmas.List.Concat.{flat_map-append, length-flat_map}
 use Rattle.std.proofs.lemmas.List.Folds.{length-flat_map-take}
@@ -26,27 +26,11 @@ pub count-step : (outs : List Target) (i : ℕ) (d t : Target) (before now : ByT
     → (is_same Start (get_or outs i d) ≡ false → number_in now (get_or outs i d) ≡ number_in before (get_or outs i d) + 1)
     → ((other : Target) → is_same (get_or outs i d) other ≡ false → number_in now other ≡ number_in before other)
     → number_in now t ≡ n + count_by (is_same t) (take (i + 1) outs)
-count-step outs i d t before now n l other so_far here others =
-    let x = get_or outs i d in
-    ⊎_elim
-    (λ (same : is_same t x ≡ true).
-    let is : t ≡ x = same_of t x same in
-    let more = count_by_more_yes (is_same t) outs i d l same in
-    let after : number_in now t ≡ number_in before t + 1 = ap (number_in now) is ∙ here other ∙ ap (λ y. number_in before y + 1) (sym is) in
-    omega (arith, more, after, so_far))
-    (λ (apart : is_same t x ≡ false).
-    let more = count_by_more_no (is_same t) outs i d l apart in
-    let after : number_in now t ≡ number_in before t = others t (differ_back t x apart) in
-    omega (arith, more, after, so_far))
-    (cases_Bool (is_same t x))
+count-step outs i d t before now n l other so_far here others = grind (arith, same_of, count_by_more_yes, count_by_more_no, differ_back)
 
 -- the ways from one part more
 pub ways_more : (ps : List Part) (i : ℕ) (t : Target) → i < length ps → ways_to (take (i + 1) ps) t ≡ ways_to (take i ps) t + count_by (is_same t) (get_or ps i start_part).outs
-ways_more ps i t l =
-    let p = get_or ps i start_part in
-    ap (λ xs. count_by (is_same t) (flat_map (λ (part : Part). part.outs) xs)) (take_more ps i start_part l)
-    ∙ ap (count_by (is_same t)) (flat_map-append (λ (part : Part). part.outs) (take i ps) (p ∷ []) ∙ ap (λ xs. flat_map (λ (part : Part). part.outs) (take i ps) ++ xs) (append-nil p.outs))
-    ∙ sum_by-append (λ out. cond (is_same t out) 1 0) (flat_map (λ (part : Part). part.outs) (take i ps)) p.outs
+ways_more ps i t l = grind (arith, count_by (is_same t), flat_map, take_more ps i start_part l, flat_map-append, append-nil, sum_by-append)
 
 -- so many ways at most
 pub few_ways_to : (execs : ℕ) (ps : List Part) (i : ℕ) (t : Target) → AreParts execs ps → i < length ps → ways_to (take i ps) t + length (get_or ps i start_part).outs < 2 ^ 32
@@ -59,10 +43,7 @@ few_ways_to execs ps i t are l =
 -- the numbers so far
 pub next-step : (ps : List Part) (i ways next : ℕ) → i < length ps → ways ≡ ways_to ps (get_or ps i start_part).own → next ≡ sum_by (width ps) (take i ps)
     → next + cond (is_joined_by ways (get_or ps i start_part)) 2 1 ≡ sum_by (width ps) (take (i + 1) ps)
-next-step ps i ways next l tells so_far =
-    let p = get_or ps i start_part in
-    let wide : cond (is_joined_by ways p) 2 1 ≡ width ps p = ap (λ n. cond (is_joined_by n p) 2 1) tells in
-    omega (arith, wide, so_far, sum_by_more (width ps) ps i start_part l)
+next-step ps i ways next l tells so_far = grind (arith, sum_by_more (width ps) ps i start_part l)
 
 small_width : (ps : List Part) (p : Part) → width ps p ≤ 2
 small_width ps p = cond_both (is_joined ps p) 2 1 (λ n. n ≤ 2) (λ h. omega arith) (λ h. omega arith)
@@ -80,23 +61,7 @@ pub numbers-step : (execs : ℕ) (ps : List Part) (i : ℕ) (before now : ByTarg
     → ((other : Target) → is_same (part_at ps i).own other ≡ false → number_in now other ≡ number_in before other)
     → ((j : ℕ) → j < i → number_in before (part_at ps j).own ≡ first_piece ps j)
     → (j : ℕ) → j < i + 1 → number_in now (part_at ps j).own ≡ first_piece ps j
-numbers-step execs ps i before now are l here others so_far j below =
-    ⊎_elim
-    (λ (same : j ≡ i). subst (λ n. number_in now (part_at ps n).own ≡ first_piece ps n) (sym same) at_i)
-    (⊎_elim
-    (λ (less : j < i). others (part_at ps j).own (are.apart j i less l) ∙ so_far j less)
-    (λ (more : i < j). absurd (omega arith)))
-    (cases_order j i)
-  where
-    first : (n : ℕ) → n ≡ 0 → number_in now (part_at ps n).own ≡ first_piece ps n
-    first n zero' = subst (λ m. number_in now (part_at ps m).own ≡ first_piece ps m) (sym zero') (ap (number_in now) are.start)
-
-    at_i : number_in now (part_at ps i).own ≡ first_piece ps i
-    at_i =
-        ⊎_elim
-        (λ (zero' : i ≡ 0). first i zero')
-        (λ (some : i ≡ 0 → ⊥). here (subst (λ (t : Target). is_same t (part_at ps i).own ≡ false) are.start (differ_back (part_at ps i).own (part_at ps 0).own (are.apart 0 i (omega (arith, some)) l))))
-        (cases_eq i 0)
+numbers-step execs ps i before now are l here others so_far j below = grind (arith, part_at ps, first_piece ps, differ_back)
 
 pub numbers_are : (execs : ℕ) (ps : List Part) (table : ByTarget) → AreParts execs ps → ((j : ℕ) → j < length ps → number_in table (part_at ps j).own ≡ first_piece ps j) → (j : ℕ) → j < length ps → number_in table (part_at ps j).own ≡ number ps (part_at ps j).own
 numbers_are execs ps table are tells j l = tells j l ∙ sym (number_is ps j are.apart l)

@@ -1,21 +1,19 @@
 -- A step of a run is a chain of passes, as far as chains are as they are said to be.
-use Rattle.std.proofs.Common.{◌≡◌, ℕ, suc, ◌+◌, ℤ, true, false, List, [], ◌∷◌, ◌++◌, length, Some, slice_get, refl, sym, ap, ◌∙◌, subst, arith}
-use Rattle.std.proofs.lemmas.Bool.{false≢true}
+use Rattle.std.proofs.Common.{◌≡◌, ℕ, suc, ◌+◌, ℤ, true, false, List, [], ◌∷◌, ◌++◌, length, Some, slice_get, sym, ap, ◌∙◌, subst, arith}
 use Rattle.std.proofs.lemmas.List.{length-append}
 use Rattle.closed_walks.specs.Graph.{to}
 use Rattle.op_table.specs.declared.Trap.{Trap}
 use Rattle.f77_tree.specs.declared.programs.Exec.{Exec}
 use Rattle.f77_tree.specs.declared.programs.ExecKind.{ExecKind}
-use Rattle.f77_tree.specs.declared.programs.ExecKind.TheVariants.{Assign, Print, Pass, Test, Sign, Pick, DoStart, DoNext, End}
 use Rattle.f77_tree.specs.declared.programs.Program.{Program}
-use Rattle.f77_tree.specs.Execution.{Memory, Outcome, Goes, Stops, Ends, outcome}
+use Rattle.f77_tree.specs.Execution.{Memory, Outcome, outcome}
 use Rattle.f77_tree.specs.Run.{State, Running, Ended, Trapped, after, step_from, executed_at, step}
 use Rattle.cfg_build.specs.declared.pieces.PieceKind.{PieceKind}
 use Rattle.cfg_build.specs.declared.pieces.PieceKind.TheVariants as piece
 use Rattle.cfg_build.specs.Parts.{line_in}
 use Rattle.cfg_build.specs.Joined.{FlowGraph}
 use Rattle.cfg_build.specs.Flow.{piece_at}
-use Rattle.cfg_build.specs.Passes.{out, Passed, Along, Traps, Done, pass_of, kind_in, PassState, after_pass}
+use Rattle.cfg_build.specs.Passes.{out, Passed, pass_of, PassState, after_pass}
 use Rattle.cfg_build.specs.Chains.{has_test}
 use Rattle.cfg_build.specs.Routes.{IsMade, last_kind, owner, IsOnePart}
 use Rattle.cfg_build.proofs.PassSteps.{pass_at, go, IsAt, passed_is, along_route}
@@ -29,27 +27,11 @@ ended_runs h = absurd cc
 
 -- one part has its own last piece
 pub own_last : (execs : List Exec) (k : ℕ) (kind : ExecKind) → has_test kind ≡ false → owner execs k kind ≡ k
-own_last execs k (Assign target value next) h = refl
-own_last execs k (Print items next) h = refl
-own_last execs k (Pass next) h = refl
-own_last execs k (Test c a b) h = refl
-own_last execs k (Sign e a b c) h = refl
-own_last execs k (Pick e targets other) h = refl
-own_last execs k (DoStart loop_no var first last step body exit) h = absurd (false≢true (sym h))
-own_last execs k (DoNext loop_no var body exit) h = absurd (false≢true (sym h))
-own_last execs k End h = refl
+own_last execs k h h2 = grind arith
 
 -- the last piece of two parts branches, and its executable's successors are two
 pub two_last : (kind : ExecKind) → has_test kind ≡ true → last_kind kind ≡ piece.Branch
-two_last (Assign target value next) h = absurd (false≢true h)
-two_last (Print items next) h = absurd (false≢true h)
-two_last (Pass next) h = absurd (false≢true h)
-two_last (Test c a b) h = refl
-two_last (Sign e a b c) h = refl
-two_last (Pick e targets other) h = refl
-two_last (DoStart loop_no var first last step body exit) h = refl
-two_last (DoNext loop_no var body exit) h = refl
-two_last End h = absurd (false≢true h)
+two_last h h2 = grind arith
 
 module _ (f : FlowGraph) (entry : ℕ → ℕ) (p : Program) (input : List ℤ) where
   -- a run of passes stands where a run of steps does
@@ -64,28 +46,14 @@ module _ (f : FlowGraph) (entry : ℕ → ℕ) (p : Program) (input : List ℤ) 
   step_is x exec found runs = ap (λ mark. step_from p input x mark) runs ∙ ap (λ e. executed_at p input x e) found
 
   pub made_pass : (node : ℕ) (kind : PieceKind) (k : ℕ) (exec : Exec) (m : Memory) → IsMade f p.execs node kind k → slice_get p.execs k ≡ Some exec → pass_at f p input node m ≡ pass_of p input m (out f.graph node) kind exec.kind
-  made_pass node kind k exec m made found =
-      ap (λ kind. pass_of p input m (out f.graph node) kind (kind_in (slice_get p.execs (piece_at f.pieces node).exec))) made.kind_is
-      ∙ ap (λ n. pass_of p input m (out f.graph node) kind (kind_in (slice_get p.execs n))) made.exec_is
-      ∙ ap (λ e. pass_of p input m (out f.graph node) kind (kind_in e)) found
+  made_pass node kind k exec m made found = cc
 
   pub made_line : (node : ℕ) (kind : PieceKind) (k : ℕ) (exec : Exec) → IsMade f p.execs node kind k → slice_get p.execs k ≡ Some exec → (piece_at f.pieces node).line ≡ exec.line
   made_line node kind k exec made found = made.line_is ∙ ap line_in found
 
   -- after a pass that fits
   pub fits_agree : (y : PassState) (x : State) (passed_line line : ℕ) (passed : Passed) (o : Outcome) → y.memory ≡ x.memory → y.out ≡ x.out → y.mark ≡ Running → x.mark ≡ Running → passed_line ≡ line → Fits f entry passed o → Agrees (after_pass y passed_line passed) (after x line o)
-  fits_agree y x passed_line line (Along edge memory text) (Goes next new written) same written_same runs x_runs lines fits =
-      record { memory_is = fits.1; out_is = ap (λ o. o ++ text) written_same ∙ ap (λ t. x.out ++ t) fits.2; mark_is = runs ∙ sym x_runs; enters = λ h. fits.0 }
-  fits_agree y x passed_line line (Traps trap) (Stops other) same written_same runs x_runs lines fits =
-      record { memory_is = same; out_is = written_same; mark_is = ap (λ t. Trapped t passed_line) fits ∙ ap (λ n. Trapped other n) lines; enters = λ h. absurd (trapped_runs other line h) }
-  fits_agree y x passed_line line Done Ends same written_same runs x_runs lines fits =
-      record { memory_is = same; out_is = written_same; mark_is = refl; enters = λ h. absurd (ended_runs h) }
-  fits_agree y x passed_line line (Along edge memory text) (Stops other) same written_same runs x_runs lines fits = absurd fits
-  fits_agree y x passed_line line (Along edge memory text) Ends same written_same runs x_runs lines fits = absurd fits
-  fits_agree y x passed_line line (Traps trap) (Goes next new written) same written_same runs x_runs lines fits = absurd fits
-  fits_agree y x passed_line line (Traps trap) Ends same written_same runs x_runs lines fits = absurd fits
-  fits_agree y x passed_line line Done (Goes next new written) same written_same runs x_runs lines fits = absurd fits
-  fits_agree y x passed_line line Done (Stops other) same written_same runs x_runs lines fits = absurd fits
+  fits_agree y x passed_line line h h2 same written_same runs x_runs lines fits = grind (arith, trapped_runs, ended_runs)
 
   module _ (x : State) (exec : Exec) (found : slice_get p.execs x.position ≡ Some exec) (x_runs : x.mark ≡ Running) (y : PassState) (agrees : Agrees y x) (pieces : List ℕ) where
     pub begins : IsAt f p input y x.memory x.out (entry x.position)

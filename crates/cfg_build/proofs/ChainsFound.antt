@@ -1,6 +1,6 @@
 -- The chain of each executable that control can come to.
-use Rattle.std.proofs.Common.{◌≡◌, ℕ, suc, ◌≤◌, true, false, List, [], ◌∷◌, ◌++◌, length, map, Option, Some, None, slice_get, unwrap_or, refl, sym, ap, ◌∙◌, subst, inl, ⊎_elim, arith}
-use Rattle.std.proofs.lemmas.Bool.{cases_Bool, false≢true}
+use Rattle.std.proofs.Common.{◌≡◌, ℕ, suc, ◌≤◌, true, false, List, [], ◌∷◌, ◌++◌, length, map, Option, Some, None, slice_get, unwrap_or, refl, sym, ap, ◌∙◌, subst, inl, arith}
+use Rattle.std.proofs.lemmas.Bool.{false≢true}
 use Rattle.f77_tree.specs.declared.programs.Exec.{Exec}
 use Rattle.f77_tree.specs.declared.programs.ExecKind.{ExecKind}
 use Rattle.f77_tree.specs.declared.programs.ExecKind.TheVariants.{Assign, Print, Pass, Test as Testing, Sign, Pick, DoStart, DoNext, End}
@@ -20,20 +20,13 @@ use Rattle.list_laws.specs.Member.{Member}
 use Rattle.cfg_build.proofs.ReachedNodes.{IsTold}
 use Rattle.cfg_build.proofs.Lowest.{IsMet}
 use Rattle.cfg_build.proofs.PartOrder.{length_is}
-use Rattle.cfg_build.proofs.PartsFound.{member_part, member_end, test_part, test_in, start_reached, cases_End}
+use Rattle.cfg_build.proofs.PartsFound.{member_part, member_end, test_part, test_in, start_reached}
 use Rattle.cfg_build.proofs.PartChains.{IsOneChain, one_chain}
 use Rattle.cfg_build.proofs.TestChains.{IsTwoChain, two_chain}
+use Rattle.std.proofs.lemmas.Grind.{elements}
 
 own_owner : (execs : List Exec) (k : ℕ) (kind : ExecKind) → has_test kind ≡ false → owner execs k kind ≡ k
-own_owner execs k (Assign target value next) h = refl
-own_owner execs k (Print items next) h = refl
-own_owner execs k (Pass next) h = refl
-own_owner execs k (Testing c a b) h = refl
-own_owner execs k (Sign e a b c) h = refl
-own_owner execs k (Pick e targets other) h = refl
-own_owner execs k (DoStart loop_no var first last step body exit) h = refl
-own_owner execs k (DoNext loop_no var body exit) h = absurd (false≢true (sym h))
-own_owner execs k End h = refl
+own_owner execs k h h2 = grind arith
 
 -- the only part of an executable
 record IsOnly (execs : List Exec) (k line : ℕ) (kind : ExecKind) : Type 0 where
@@ -108,8 +101,7 @@ module _ (told : IsTold) (met : IsMet) (names : List NameInfo) (execs : List Exe
 
   test_at : (d : ℕ) (loop : Loop) (exec : Option Exec) → slice_get execs d ≡ exec → begun_in exec ≡ Some loop → is_reached execs d ≡ true → Member (parts execs) (test_part d (line_in exec) loop)
   test_at d loop None found begins reached = absurd cc
-  test_at d loop (Some exec) found begins reached =
-      member_part execs (test_part d exec.line loop) (record { at = d; exec = exec; found = found; reached = reached; among = test_in execs d exec.line exec.kind loop begins })
+  test_at d loop (Some exec) found begins reached = search (member_part, test_part, test_in, arith)
 
   -- its pieces are as they are said to be, all that can be followed, one hold among them at most
   pub record IsFound (k : ℕ) (kind : ExecKind) : Type 0 where
@@ -161,10 +153,4 @@ module _ (told : IsTold) (met : IsMet) (names : List NameInfo) (execs : List Exe
         (member_part execs p.one (record { at = k; exec = exec; found = found; reached = reached; among = p.among })) p.own p.kind_is p.exec_is (p.line_is ∙ line_found) p.outs)
 
     pub chain_found : IsFound k exec.kind
-    chain_found = ⊎_elim
-        (λ (two : has_test exec.kind ≡ true). of_two two)
-        (λ (single : has_test exec.kind ≡ false). ⊎_elim
-        (λ (ends : exec.kind ≡ End). of_end single ends)
-        (λ (other : exec.kind ≡ End → ⊥). of_other single other)
-        (cases_End exec.kind))
-        (cases_Bool (has_test exec.kind))
+    chain_found = grind (arith, elements, of_two, of_end, of_other)

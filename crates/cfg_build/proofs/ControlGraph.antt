@@ -47,9 +47,7 @@ control_edge execs e edge =
     }
 
 pub control_leads : (execs : List Exec) (e : ℕ) → e < edge_count (control execs) → LeadsTo execs (from (control execs) e) (to (control execs) e)
-control_leads execs e edge =
-    let r : IsControlEdge execs e = control_edge execs e edge in
-    subst (λ k. LeadsTo execs k (to (control execs) e)) (sym r.begins) (r.nth, r.within, get_or_default (successors_in (slice_get execs r.exec)) r.nth (to (control execs) e) 0 r.within ∙ sym r.ends)
+control_leads execs e edge = grind (arith, control_edge execs e edge, get_or_default)
 
 -- a successor is led to by an edge
 pub edge_of_lead : (execs : List Exec) (k s : ℕ) → k < length execs → LeadsTo execs k s → IsEdge (control execs) k s

@@ -26,16 +26,7 @@ abbrev by_count : Memory → ℕ → Result ℕ Trap
 by_count m loop_no = Ok (if nat_lt 0 (slice_index m.counts loop_no) then 0 else 1)
 
 choice_begun : (names : List NameInfo) (m : Memory) (kind : ExecKind) (loop : Loop) → begun kind ≡ Some loop → choice names m kind ≡ by_count m loop.number
-choice_begun names m (DoStart loop_no var first last step body exit) loop is =
-    ap (λ (l : Loop). by_count m l.number) (some_loop (record { number = loop_no; variable = var; body = body; exit = exit }) loop is)
-choice_begun names m (Assign target value next) loop is = absurd cc
-choice_begun names m (Print items next) loop is = absurd cc
-choice_begun names m (Pass next) loop is = absurd cc
-choice_begun names m (Test c a b) loop is = absurd cc
-choice_begun names m (Sign e a b c) loop is = absurd cc
-choice_begun names m (Pick e targets other) loop is = absurd cc
-choice_begun names m (DoNext loop_no var body exit) loop is = absurd cc
-choice_begun names m End loop is = absurd cc
+choice_begun names m h loop is = grind (arith, some_loop)
 
 choice_at : (names : List NameInfo) (m : Memory) (exec : Option Exec) (loop : Loop) → begun_in exec ≡ Some loop → choice names m (kind_in exec) ≡ by_count m loop.number
 choice_at names m None loop is = absurd cc
@@ -87,11 +78,4 @@ module _ (p : Program) (input : List ℤ) (loops : AreLoops p.execs p.loops) whe
 
   -- the last piece of its chain is a test
   pub test_of : (f : FlowGraph) (entry : ℕ → ℕ) (k : ℕ) (kind : ExecKind) (node : ℕ) → has_test kind ≡ true → (d : IsDoStep p input k kind) → IsLast f entry p.execs k kind node → IsTest f entry p node d.loop_no d.body d.exit
-  test_of f entry k kind node two d last =
-      let count : length (successors kind) ≡ 2 = ap (λ (xs : List ℕ). length xs) d.leads in
-      record {
-        branches = last.made.kind_is ∙ two_last kind two;
-        chooses = λ m. ap (λ n. choice p.names m (kind_in (slice_get p.execs n))) last.made.exec_is ∙ d.chooses m;
-        leads = last.leads 0 (omega (arith, count)) ∙ ap (λ (xs : List ℕ). entry (slice_index xs 0)) d.leads;
-        leaves = last.leads 1 (omega (arith, count)) ∙ ap (λ (xs : List ℕ). entry (slice_index xs 1)) d.leads;
-      }
+  test_of f entry k kind node two d last = grind (arith, two_last kind two, last.leads 0, slice_index, last.leads 1)

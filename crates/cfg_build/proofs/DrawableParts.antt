@@ -1,6 +1,5 @@
 -- The parts of a program can be drawn: what `AreParts` asks of them.
-use Rattle.std.proofs.Common.{◌≡◌, ℕ, suc, ◌+◌, ◌*◌, ◌<◌, ◌≤◌, ◌⊎◌, true, false, List, [], ◌∷◌, ◌++◌, length, get_or, flat_map, Some, refl, sym, ap, ◌∙◌, subst, inl, inr, ⊎_elim, arith, length-append}
-use Rattle.std.proofs.lemmas.Bool.{cases_Bool}
+use Rattle.std.proofs.Common.{◌≡◌, ℕ, suc, ◌+◌, ◌*◌, ◌<◌, ◌≤◌, ◌⊎◌, false, List, [], ◌∷◌, ◌++◌, length, get_or, flat_map, Some, refl, sym, ap, ◌∙◌, subst, ⊎_elim, arith, length-append}
 use Rattle.std.proofs.lemmas.List.{length-map, length_push}
 use Rattle.std.proofs.lemmas.List.Sums.{sum_by-append, sum_by-cons}
 use Rattle.std.proofs.lemmas.Option.{slice_get_within}
@@ -8,15 +7,13 @@ use Rattle.std.specs.Prelude.{slice_get}
 use Rattle.std.specs.List.{sum_by, range_with_len}
 use Rattle.f77_tree.specs.declared.programs.Exec.{Exec}
 use Rattle.f77_tree.specs.declared.programs.ExecKind.{ExecKind}
-use Rattle.f77_tree.specs.declared.programs.ExecKind.TheVariants.{Assign, Print, Pass, Test as Testing, Sign, Pick, DoStart, DoNext, End}
 use Rattle.f77_tree.specs.declared.programs.NameInfo.{NameInfo}
 use Rattle.f77_tree.specs.Control.{targets_of, EndsWithEnd}
 use Rattle.f77_tree.specs.WellFormed.{AreExecs}
 use Rattle.cfg_build.specs.declared.parts.Part.{Part}
 use Rattle.cfg_build.specs.declared.parts.Target.{Target}
 use Rattle.cfg_build.specs.declared.parts.Target.TheVariants.{Start, First}
-use Rattle.cfg_build.specs.Control.{is_reached}
-use Rattle.cfg_build.specs.Parts.{parts, parts_of, parts_in, reached_parts, start_part, end_part}
+use Rattle.cfg_build.specs.Parts.{parts, parts_of, reached_parts, start_part, end_part}
 use Rattle.cfg_build.specs.Joined.{is_same}
 use Rattle.cfg_build.specs.Tables.{IsOf, AreParts}
 use Rattle.cfg_build.proofs.BuildingParts.{reached_parts-yes, reached_parts-no}
@@ -24,16 +21,14 @@ use Rattle.cfg_build.proofs.JoinedGraph.{IsPartAt, place_of_part}
 use Rattle.list_laws.specs.Member.{Member}
 use Rattle.list_laws.proofs.Members.{Member-at}
 use Rattle.cfg_build.proofs.PartOrder.{parts_apart, length_is}
-use Rattle.cfg_build.proofs.PartsFound.{IsWay, To, Begins, Increments, ways_in, IsExecPart, cases_part, way_leads}
+use Rattle.cfg_build.proofs.PartsFound.{IsWay, ways_in, IsExecPart, cases_part, way_leads}
 use Rattle.cfg_build.proofs.PieceNumbers.{part_at}
 use Rattle.cfg_build.proofs.ReachedNodes.{IsTold}
 
 -- ---- targets
 
 way_is_other : (execs : List Exec) (k : ℕ) (kind : ExecKind) (t : Target) → IsWay execs k kind t → is_same Start t ≡ false
-way_is_other execs k kind t (To s m is) = ap (is_same Start) is
-way_is_other execs k kind t (Begins loop b is) = ap (is_same Start) is
-way_is_other execs k kind t (Increments loop b is) = ap (is_same Start) is
+way_is_other execs k kind t h = grind arith
 
 -- no way leads to the start
 out_is_other : (execs : List Exec) (p : Part) (t : Target) → Member (parts execs) p → Member p.outs t → is_same Start t ≡ false
@@ -48,24 +43,7 @@ out_is_other execs p t among m =
 
 -- the target of a part of an executable is that executable's
 own_in : (execs : List Exec) (k line n : ℕ) (kind : ExecKind) (p : Part) → k < n → Member (parts_of execs k line kind) p → IsOf n p.own
-own_in execs k line n (Assign target value next) p l (inl same) = subst (λ (q : Part). IsOf n q.own) same l
-own_in execs k line n (Print items next) p l (inl same) = subst (λ (q : Part). IsOf n q.own) same l
-own_in execs k line n (Pass next) p l (inl same) = subst (λ (q : Part). IsOf n q.own) same l
-own_in execs k line n (Testing c if_true if_false) p l (inl same) = subst (λ (q : Part). IsOf n q.own) same l
-own_in execs k line n (Sign value neg zero' pos) p l (inl same) = subst (λ (q : Part). IsOf n q.own) same l
-own_in execs k line n (Pick value targets other) p l (inl same) = subst (λ (q : Part). IsOf n q.own) same l
-own_in execs k line n (DoStart loop_no var first last step body exit) p l (inl same) = subst (λ (q : Part). IsOf n q.own) same l
-own_in execs k line n (DoStart loop_no var first last step body exit) p l (inr (inl same)) = subst (λ (q : Part). IsOf n q.own) same l
-own_in execs k line n (DoStart loop_no var first last step body exit) p l (inr (inr none)) = absurd none
-own_in execs k line n (DoNext loop_no var body exit) p l (inl same) = subst (λ (q : Part). IsOf n q.own) same l
-own_in execs k line n (Assign target value next) p l (inr none) = absurd none
-own_in execs k line n (Print items next) p l (inr none) = absurd none
-own_in execs k line n (Pass next) p l (inr none) = absurd none
-own_in execs k line n (Testing c if_true if_false) p l (inr none) = absurd none
-own_in execs k line n (Sign value neg zero' pos) p l (inr none) = absurd none
-own_in execs k line n (Pick value targets other) p l (inr none) = absurd none
-own_in execs k line n (DoNext loop_no var body exit) p l (inr none) = absurd none
-own_in execs k line n End p l none = absurd none
+own_in execs k line n h p l none = grind arith
 
 own_of : (execs : List Exec) (p : Part) → EndsWithEnd execs → Member (parts execs) p → IsOf (length execs) p.own
 own_of execs p end among =
@@ -83,26 +61,10 @@ abbrev pub way_count : List Part → ℕ
 way_count ps = sum_by (λ part. length part.outs) ps
 
 few_parts_of : (execs : List Exec) (k line : ℕ) (kind : ExecKind) → length (parts_of execs k line kind) ≤ 2
-few_parts_of execs k line (Assign target value next) = omega arith
-few_parts_of execs k line (Print items next) = omega arith
-few_parts_of execs k line (Pass next) = omega arith
-few_parts_of execs k line (Testing c if_true if_false) = omega arith
-few_parts_of execs k line (Sign value neg zero' pos) = omega arith
-few_parts_of execs k line (Pick value targets other) = omega arith
-few_parts_of execs k line (DoStart loop_no var first last step body exit) = omega arith
-few_parts_of execs k line (DoNext loop_no var body exit) = omega arith
-few_parts_of execs k line End = omega arith
+few_parts_of execs k line h = grind arith
 
 few_ways_of : (execs : List Exec) (k line : ℕ) (kind : ExecKind) → way_count (parts_of execs k line kind) ≤ 3 + length (targets_of kind)
-few_ways_of execs k line (Assign target value next) = omega arith
-few_ways_of execs k line (Print items next) = omega arith
-few_ways_of execs k line (Pass next) = omega arith
-few_ways_of execs k line (Testing c if_true if_false) = omega arith
-few_ways_of execs k line (Sign value neg zero' pos) = omega arith
-few_ways_of execs k line (Pick value targets other) = omega (arith, length-map (targets ++ other ∷ []) First, length_push targets other)
-few_ways_of execs k line (DoStart loop_no var first last step body exit) = omega arith
-few_ways_of execs k line (DoNext loop_no var body exit) = omega arith
-few_ways_of execs k line End = omega arith
+few_ways_of execs k line h = grind (arith, length-map, length_push)
 
 -- of the parts of an executable that control can't come to there are none
 pub record IsFew (execs : List Exec) (k : ℕ) (exec : Exec) : Type 0 where
@@ -110,21 +72,7 @@ pub record IsFew (execs : List Exec) (k : ℕ) (exec : Exec) : Type 0 where
   pub ways : way_count (reached_parts execs k) ≤ 3 + length (targets_of exec.kind)
 
 few_reached : (execs : List Exec) (k : ℕ) (exec : Exec) → slice_get execs k ≡ Some exec → IsFew execs k exec
-few_reached execs k exec found =
-    ⊎_elim
-    (λ (h : is_reached execs k ≡ true).
-    let is : reached_parts execs k ≡ parts_of execs k exec.line exec.kind = reached_parts-yes execs k h ∙ ap (parts_in execs k) found in
-    record {
-      parts = let l = ap length is in omega (arith, l, few_parts_of execs k exec.line exec.kind);
-      ways = let l = ap way_count is in omega (arith, l, few_ways_of execs k exec.line exec.kind);
-    })
-    (λ (h : is_reached execs k ≡ false).
-    let is : reached_parts execs k ≡ [] = reached_parts-no execs k h in
-    record {
-      parts = let l = ap length is in omega (arith, l);
-      ways = let l = ap way_count is in omega (arith, l);
-    })
-    (cases_Bool (is_reached execs k))
+few_reached execs k exec found = grind (arith, reached_parts-yes, few_parts_of, few_ways_of, reached_parts-no)
 
 -- the parts of the executables from one on
 pub record AreFew (execs : List Exec) (a : ℕ) (rest : List Exec) : Type 0 where

@@ -1,5 +1,5 @@
 -- Each pass takes an edge that leaves its piece.
-use Rattle.std.proofs.Common.{◌≡◌, ◌≢◌, ℕ, ◌+◌, ◌-◌, ◌<◌, ◌≤◌, ◌⊎◌, ◌==◌, true, List, [], ◌∷◌, length, slice_get, sym, ap, ◌∙◌, subst, inl, inr, ⊎_elim, arith}
+use Rattle.std.proofs.Common.{◌≡◌, ◌≢◌, ℕ, ◌+◌, ◌-◌, ◌<◌, ◌≤◌, ◌⊎◌, ◌==◌, List, [], ◌∷◌, length, slice_get, sym, ap, ◌∙◌, subst, inl, inr, ⊎_elim, arith}
 use Rattle.std.proofs.lemmas.Bool.{cases_lt, eqb-true, eq-eqb, false≢true}
 use Rattle.std.proofs.lemmas.List.{length-map}
 use Rattle.std.proofs.lemmas.List.FromFn.{length-range_with_len}
@@ -10,10 +10,9 @@ use Rattle.f77_tree.specs.declared.programs.NameInfo.{NameInfo}
 use Rattle.f77_tree.specs.Execution.{Memory}
 use Rattle.f77_tree.specs.WellFormed.{AreExecs}
 use Rattle.cfg_build.specs.declared.parts.Part.{Part}
-use Rattle.cfg_build.specs.declared.pieces.Piece.{Piece}
 use Rattle.cfg_build.specs.declared.pieces.PieceKind.TheVariants as piece
 use Rattle.cfg_build.specs.Parts.{parts, start_part, end_part}
-use Rattle.cfg_build.specs.Joined.{rows, finish, is_joined, number}
+use Rattle.cfg_build.specs.Joined.{rows, finish}
 use Rattle.cfg_build.specs.Flow.{flow, held, piece_at}
 use Rattle.cfg_build.specs.Passes.{outs, out, choice, kind_in}
 use Rattle.list_laws.specs.Member.{Member}
@@ -23,7 +22,7 @@ use Rattle.cfg_build.proofs.Lowest.{IsMet}
 use Rattle.cfg_build.proofs.JoinedGraph.{row_graph, heads_at, heads_of_part}
 use Rattle.cfg_build.proofs.PartsFound.{IsExecPart, cases_part}
 use Rattle.cfg_build.proofs.PieceKinds.{pieces_of, piece_of_part, join_kind}
-use Rattle.cfg_build.proofs.PieceNumbers.{part_at, own_piece, first_piece, IsPieceOf, piece_of}
+use Rattle.cfg_build.proofs.PieceNumbers.{part_at, own_piece, first_piece, piece_of}
 use Rattle.cfg_build.proofs.ReachedPieces.{leaves_piece}
 use Rattle.cfg_build.proofs.OutEdges.{first_out, outs_are}
 use Rattle.cfg_build.proofs.HeldEdges.{edge_for}
@@ -35,10 +34,7 @@ use Rattle.cfg_build.proofs.BranchChoices.{IsBelow, IsBranch, is_branch, branch_
 -- an edge among those that leave a node
 pub out_leaves : (g : Graph) (x i : ℕ) → i < length (outs g x) → (out g x i < edge_count g) × (from g (out g x i) ≡ x)
 out_leaves g x i some =
-    let m : Member (outs g x) (out g x i) = Member-at (outs g x) i 0 some in
-    let r = Member-filtered (λ e. from g e == x) (range_with_len 0 (edge_count g)) (out g x i) m in
-    let within = Member-in_range 0 (edge_count g) (out g x i) r.0 in
-    (omega (arith, within.1), eqb-true (from g (out g x i)) x r.1)
+    grind (arith, Member-at (outs g x) i 0 some, Member-filtered, Member-in_range 0 (edge_count g) (out g x i), eqb-true (from g (out g x i)) x)
 
 some_member : (xs : List ℕ) (x : ℕ) → Member xs x → 0 < length xs
 some_member [] x m = absurd m
@@ -69,9 +65,7 @@ module _ (told : IsTold) (met : IsMet) (names : List NameInfo) (execs : List Exe
       (cases_lt x n)
 
   two_of_hold : (q : ℕ) → q < length (held execs) → 0 < length (outs (flow execs).graph (length (rows (parts execs)) + q))
-  two_of_hold q some =
-      let e : length (outs (flow execs).graph (n + q)) ≡ 2 = ap (λ (xs : List ℕ). length xs) (outs_hold told names execs loops well q some) in
-      omega (arith, e)
+  two_of_hold q some = grind (arith, outs_hold told names execs loops well q some)
 
   -- an edge leaves each piece but the end
   pub some_out : (x : ℕ) → x < (flow execs).graph.nodes → x ≢ finish execs → 0 < length (outs (flow execs).graph x)
@@ -98,21 +92,7 @@ module _ (told : IsTold) (met : IsMet) (names : List NameInfo) (execs : List Exe
 
   old_chosen : (x : ℕ) → x < length (rows (parts execs)) → x ≢ finish execs → (piece_at (flow execs).pieces x).kind ≡ piece.Branch → (m : Memory) → IsBelow (length (outs (flow execs).graph x)) (choice names m (kind_in (slice_get execs (piece_at (flow execs).pieces x).exec)))
   old_chosen x old other branches m =
-      let r : IsPieceOf ps x = piece_of ps x old in
-      let p : Part = part_at ps r.part in
-      let same : piece_at (flow execs).pieces x ≡ piece_at (pieces_of ps) x = old_kind told met names execs loops well x old in
-      ⊎_elim
-      (λ (own : x ≡ own_piece ps r.part).
-      let is : piece_at (flow execs).pieces x ≡ p.piece = same ∙ ap (λ y. piece_at (pieces_of ps) y) own ∙ piece_of_part ps r.part r.exists in
-      let heads : length (heads_at ps x) ≡ length p.outs = ap (λ y. length (heads_at ps y)) own ∙ ap (λ (xs : List ℕ). length xs) (heads_of_part ps r.part r.exists) ∙ length-map p.outs (number ps) in
-      let count : length (outs (flow execs).graph x) ≡ length p.outs =
-      ap (λ (xs : List ℕ). length xs) (outs_old told names execs loops well x old ∙ outs_are ps (finish execs) x old other)
-      ∙ length-range_with_len (first_out ps (finish execs) x) (length (heads_at ps x)) ∙ heads in
-      subst (λ (q : Piece). IsBelow (length (outs (flow execs).graph x)) (choice names m (kind_in (slice_get execs q.exec)))) (sym is)
-      (chosen x p (Member-at ps r.part start_part r.exists) (ap (λ (q : Piece). q.kind) (sym is) ∙ branches) count m))
-      (λ (j : (is_joined ps p ≡ true) × (x ≡ first_piece ps r.part)).
-      absurd (false≢true (ap is_branch (sym (ap (λ (q : Piece). q.kind) same ∙ ap (λ y. (piece_at (pieces_of ps) y).kind) j.1 ∙ join_kind ps r.part r.exists j.0) ∙ branches))))
-      r.which
+      grind (arith, piece_of ps x old, part_at ps, pieces_of ps, old_kind told met names execs loops well x old, own_piece ps, piece_of_part ps, heads_at ps x, heads_at ps, heads_of_part ps, length-map, outs_old told names execs loops well x old, outs_are ps (finish execs) x old other, length-range_with_len (first_out ps (finish execs) x) (length (heads_at ps x)), first_out ps (finish execs) x, chosen x, Member-at ps, first_piece ps, is_branch, join_kind ps)
 
   -- a branch takes one of its edges
   pub one_chosen : (x : ℕ) → x < (flow execs).graph.nodes → x ≢ finish execs → (piece_at (flow execs).pieces x).kind ≡ piece.Branch → (m : Memory) → IsBelow (length (outs (flow execs).graph x)) (choice names m (kind_in (slice_get execs (piece_at (flow execs).pieces x).exec)))

@@ -1,5 +1,5 @@
 -- The end is the last piece of the joined graph.
-use Rattle.std.proofs.Common.{◌≡◌, ◌+◌, List, [], ◌∷◌, length, get_or, take, flat_map, sum_by, refl, sym, ap, ◌∙◌, arith}
+use Rattle.std.proofs.Common.{◌≡◌, ◌+◌, List, [], ◌∷◌, length, get_or, flat_map, sum_by, refl, sym, ap, ◌∙◌, arith}
 use Rattle.std.proofs.lemmas.Bool.{cond-false}
 use Rattle.std.proofs.lemmas.List.{get_or_push, length_push, take_at}
 use Rattle.std.proofs.lemmas.List.Sums.{position_or_len_is, sum_by_push}
@@ -29,9 +29,7 @@ module _ (execs : List Exec) (end : EndsWithEnd execs) where
       (λ h. ap (λ (p : Part). is_same (First (last_of execs)) p.own) (end_at start_part) ∙ is_same_itself (First (last_of execs)))
 
   finish_is : finish execs ≡ sum_by (width (parts execs)) before
-  finish_is =
-      ap (λ n. sum_by (width (parts execs)) (take n (parts execs))) end_position
-      ∙ ap (λ ps. sum_by (width (parts execs)) ps) (take_at before (end_part execs ∷ []) (length before) refl)
+  finish_is = grind (arith, sum_by (width (parts execs)), end_position, take_at before (end_part execs ∷ []) (length before))
 
   -- there is no piece after the end
   pub end_is_last : length (rows (parts execs)) ≡ finish execs + 1

@@ -22,11 +22,7 @@ heads_of_spread y node heads = count-map (comes_to y) (λ (head : ℕ). (node, h
 pub heads_of_fan : (y first : ℕ) (lists : List (List ℕ)) → count_by (comes_to y) (fan first lists) ≡ sum_by (heads_to y) lists
 heads_of_fan y first [] = refl
 heads_of_fan y first (heads ∷ rest) =
-    let e : count_by (comes_to y) (spread first heads ++ fan (suc first) rest) ≡ count_by (comes_to y) (spread first heads) + count_by (comes_to y) (fan (suc first) rest) = count-append (comes_to y) (spread first heads) (fan (suc first) rest) in
-    let h : sum_by (heads_to y) (heads ∷ rest) ≡ heads_to y heads + sum_by (heads_to y) rest = sum_by-cons (heads_to y) heads rest in
-    let here : count_by (comes_to y) (spread first heads) ≡ heads_to y heads = heads_of_spread y first heads in
-    let r : count_by (comes_to y) (fan (suc first) rest) ≡ sum_by (heads_to y) rest = heads_of_fan y (suc first) rest in
-    omega (arith, e, h, here, r)
+    grind (arith, count_by, spread first heads, count_by (comes_to y) (spread first heads), count_by (comes_to y) (fan (suc first) rest), count-append (comes_to y) (spread first heads) (fan (suc first) rest), sum_by, sum_by (heads_to y) rest, sum_by-cons (heads_to y) heads rest, heads_of_spread y first heads, heads_of_fan y (suc first) rest)
 
 tails_of_spread : (y node : ℕ) (heads : List ℕ) → count_by (leaves_from y) (spread node heads) ≡ count_by (λ head. node == y) heads
 tails_of_spread y node heads = count-map (leaves_from y) (λ (head : ℕ). (node, head)) heads

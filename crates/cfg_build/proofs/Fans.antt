@@ -1,9 +1,10 @@
 -- Edges by the nodes at which they begin: how many there are, at which place each stands, and that there are no others.
-use Rattle.std.proofs.Common.{◌≡◌, ℕ, zero, suc, ◌+◌, ◌-◌, ◌<◌, ◌≤◌, List, [], ◌∷◌, ◌++◌, length, get_or, take, map, sum_by, refl, sym, ap, ◌∙◌, ⊎_elim, add-zero, arith}
+use Rattle.std.proofs.Common.{◌≡◌, ℕ, zero, suc, ◌+◌, ◌-◌, ◌<◌, ◌≤◌, List, [], ◌∷◌, length, get_or, take, map, sum_by, refl, ap, ⊎_elim, add-zero, arith}
 use Rattle.std.proofs.lemmas.Bool.{cases_lt}
 use Rattle.std.proofs.lemmas.List.{length-append, get_or_append_left, get_or-append-add}
 use Rattle.std.proofs.lemmas.List.Sums.{sum_by-cons}
 use Rattle.cfg_build.specs.Control.{fan}
+use Rattle.std.proofs.lemmas.Grind.{elements}
 
 -- the edges of one node
 abbrev pub spread : (node : ℕ) → List ℕ → List (ℕ × ℕ)
@@ -38,38 +39,15 @@ places_before_suc heads rest j = sum_by-cons (λ (x : List ℕ). length x) heads
 pub get_or-fan : (first : ℕ) (lists : List (List ℕ)) (j i : ℕ) → j < length lists → i < length (get_or lists j []) → get_or (fan first lists) (places_before lists j + i) (0, 0) ≡ (first + j, get_or (get_or lists j []) i 0)
 get_or-fan first [] j i some edge = absurd (omega (arith, some))
 get_or-fan first (heads ∷ rest) zero i some edge =
-    let own : List (ℕ × ℕ) = spread first heads in
-    let same : length own ≡ length heads = length-spread first heads in
-    let here : i < length own = omega (arith, same, edge) in
-    let place : places_before (heads ∷ rest) 0 + i ≡ i = omega arith in
-    ap (λ n. get_or (own ++ fan (suc first) rest) n (0, 0)) place
-    ∙ get_or_append_left own (fan (suc first) rest) (0, 0) i here
-    ∙ get_or-spread first heads i edge
-    ∙ ap (λ n. (n, get_or heads i 0)) (sym (add-zero first))
+    grind (arith, length-spread first heads, get_or_append_left, get_or-spread first heads i edge, add-zero first)
 get_or-fan first (heads ∷ rest) (suc j) i some edge =
-    let own : List (ℕ × ℕ) = spread first heads in
-    let same : length own ≡ length heads = length-spread first heads in
-    let before : places_before (heads ∷ rest) (suc j) ≡ length heads + places_before rest j = places_before_suc heads rest j in
-    let place : places_before (heads ∷ rest) (suc j) + i ≡ length own + (places_before rest j + i) = omega (arith, before, same) in
-    let node : suc first + j ≡ first + suc j = omega arith in
-    ap (λ n. get_or (own ++ fan (suc first) rest) n (0, 0)) place
-    ∙ get_or-append-add own (fan (suc first) rest) (places_before rest j + i) (0, 0)
-    ∙ get_or-fan (suc first) rest j i (omega (arith, some)) edge
-    ∙ ap (λ n. (n, get_or (get_or rest j []) i 0)) node
+    grind (arith, length-spread first heads, places_before_suc heads rest j, get_or-append-add, get_or-fan (suc first) rest j i)
 
 pub fan_below : (first : ℕ) (lists : List (List ℕ)) (j i : ℕ) → j < length lists → i < length (get_or lists j []) → places_before lists j + i < length (fan first lists)
 fan_below first [] j i some edge = absurd (omega (arith, some))
-fan_below first (heads ∷ rest) zero i some edge =
-    let e1 : length (fan first (heads ∷ rest)) ≡ sum_by (λ heads. length heads) (heads ∷ rest) = length-fan first (heads ∷ rest) in
-    let e2 : sum_by (λ heads. length heads) (heads ∷ rest) ≡ length heads + sum_by (λ heads. length heads) rest = sum_by-cons (λ (x : List ℕ). length x) heads rest in
-    omega (arith, e1, e2, edge)
+fan_below first (heads ∷ rest) zero i some edge = grind (arith, elements, sum_by, length-fan, sum_by-cons)
 fan_below first (heads ∷ rest) (suc j) i some edge =
-    let ih : places_before rest j + i < length (fan (suc first) rest) = fan_below (suc first) rest j i (omega (arith, some)) edge in
-    let e1 : length (fan first (heads ∷ rest)) ≡ sum_by (λ heads. length heads) (heads ∷ rest) = length-fan first (heads ∷ rest) in
-    let e2 : sum_by (λ heads. length heads) (heads ∷ rest) ≡ length heads + sum_by (λ heads. length heads) rest = sum_by-cons (λ (x : List ℕ). length x) heads rest in
-    let e3 : length (fan (suc first) rest) ≡ sum_by (λ heads. length heads) rest = length-fan (suc first) rest in
-    let before : places_before (heads ∷ rest) (suc j) ≡ length heads + places_before rest j = places_before_suc heads rest j in
-    omega (arith, ih, e1, e2, e3, before)
+    grind (arith, elements, sum_by, length-fan, sum_by-cons, places_before_suc, fan_below (suc first) rest j i)
 
 -- The edge at this place is the edge number `nth` of the node `first + list`.
 pub record IsInFan (lists : List (List ℕ)) (place : ℕ) : Type 0 where

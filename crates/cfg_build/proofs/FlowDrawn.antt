@@ -18,7 +18,7 @@ use Rattle.cfg_build.specs.declared.pieces.Piece.{Piece}
 use Rattle.cfg_build.specs.declared.rows.Drawing.{Drawing}
 use Rattle.cfg_build.specs.Control.{fan}
 use Rattle.cfg_build.specs.Parts.{parts, start_part, end_part, last_of}
-use Rattle.cfg_build.specs.Joined.{FlowGraph, Row, rows, rows_of, join_row, part_row, number, is_joined, joined, finish}
+use Rattle.cfg_build.specs.Joined.{FlowGraph, Row, rows, rows_of, number, joined, finish}
 use Rattle.cfg_build.specs.Holds.{is_held, held_edge, with_hold}
 use Rattle.cfg_build.specs.Flow.{flow, held, piece_at}
 use Rattle.cfg_build.specs.Tables.{AreParts, number_in, drawn_as}
@@ -42,17 +42,11 @@ use Rattle.cfg_build.proofs.Strong.{held_edges, flow_graph}
 
 -- a part has one edge more than ways, where a join stands before it
 few_heads_of : (ps : List Part) (p : Part) → sum_by (λ (row : Row). length row.heads) (rows_of ps p) ≤ 1 + length p.outs
-few_heads_of ps p =
-    let total : List Row → ℕ = λ (xs : List Row). sum_by (λ (row : Row). length row.heads) xs in
-    ⊎_elim
-    (λ (h : is_joined ps p ≡ true). let e = ap total (cond-true (is_joined ps p) (join_row ps p ∷ part_row ps p ∷ []) (part_row ps p ∷ []) h) in omega (arith, e, length-map p.outs (number ps)))
-    (λ (h : is_joined ps p ≡ false). let e = ap total (cond-false (is_joined ps p) (join_row ps p ∷ part_row ps p ∷ []) (part_row ps p ∷ []) h) in omega (arith, e, length-map p.outs (number ps)))
-    (cases_Bool (is_joined ps p))
+few_heads_of ps p = grind (arith, cond-true, length-map, cond-false)
 
 few_heads : (ps qs : List Part) → sum_by (λ (row : Row). length row.heads) (flat_map (rows_of ps) qs) ≤ length qs + way_count qs
 few_heads ps [] = omega arith
-few_heads ps (p ∷ qs) =
-    omega (arith, few_heads_of ps p, few_heads ps qs, sum_by-append (λ (row : Row). length row.heads) (rows_of ps p) (flat_map (rows_of ps) qs), sum_by-cons (λ (part : Part). length part.outs) p qs)
+few_heads ps (p ∷ qs) = search (few_heads_of, sum_by-append, sum_by-cons, few_heads ps qs, arith)
 
 length-filter_le : (test : ℕ → Bool) (xs : List ℕ) → length (filter test xs) ≤ length xs
 length-filter_le test [] = omega arith
@@ -96,31 +90,14 @@ module _ (told : IsTold) (met : IsMet) (names : List NameInfo) (execs : List Exe
   sound = joined_sound told names execs loops well
 
   few_held : length (held execs) ≤ 80004
-  few_held =
-      let n = (joined execs).graph.nodes in
-      omega (arith, few_nodes, length-filter_le (is_held (joined execs).graph (finish execs)) (range_with_len 0 n), length-range_with_len 0 n)
+  few_held = grind (arith, few_nodes, length-filter_le (is_held (joined execs).graph (finish execs)), length-range_with_len 0)
 
   base : HoldsFit (joined execs) (joined execs).graph (finish execs) (held execs) (flow execs)
-  base = record {
-    nodes = λ k d l.
-        let r = Member-filtered (is_held (joined execs).graph (finish execs)) (range_with_len 0 (joined execs).graph.nodes) (get_or (held execs) k d) (Member-at (held execs) k d l) in
-        let within = Member-in_range 0 (joined execs).graph.nodes (get_or (held execs) k d) r.0 in
-        omega (arith, within.1);
-    edges = λ k d l. (held_edges told met names execs loops well (get_or (held execs) k d) (Member-at (held execs) k d l)).exists;
-    few = omega (arith, few_nodes, few_held);
-    is = refl;
-  }
+  base =
+      grind (arith, Member-filtered (is_held (joined execs).graph (finish execs)) (range_with_len 0 (joined execs).graph.nodes), Member-at (held execs), Member-in_range 0 (joined execs).graph.nodes, held_edges told met names execs loops well, few_nodes, few_held)
 
   pub holds_fit : (j : FlowGraph) (g : Graph) (fin : ℕ) (hs : List ℕ) → j ≡ joined execs → g ≡ j.graph → fin ≡ g.nodes - 1 → hs ≡ filter (is_held g fin) (range_with_len 0 g.nodes) → HoldsFit j g fin hs (flow execs)
-  holds_fit j g fin hs is graph last held_is =
-      let graph_is : g ≡ (joined execs).graph = graph ∙ ap (λ (f : FlowGraph). f.graph) is in
-      let nodes_is : g.nodes ≡ length (rows (parts execs)) = ap (λ (h : Graph). h.nodes) graph_is in
-      let fin_is : fin ≡ finish execs = omega (arith, last, nodes_is, end_is_last execs well.end) in
-      let hs_is : hs ≡ held execs = held_is ∙ ap (λ (h : Graph). filter (is_held h fin) (range_with_len 0 h.nodes)) graph_is ∙ ap (λ n. filter (is_held (joined execs).graph n) (range_with_len 0 (joined execs).graph.nodes)) fin_is in
-      let at_j : HoldsFit j (joined execs).graph (finish execs) (held execs) (flow execs) = subst (λ (f : FlowGraph). HoldsFit f (joined execs).graph (finish execs) (held execs) (flow execs)) (sym is) base in
-      let at_g : HoldsFit j g (finish execs) (held execs) (flow execs) = subst (λ (h : Graph). HoldsFit j h (finish execs) (held execs) (flow execs)) (sym graph_is) at_j in
-      let at_fin : HoldsFit j g fin (held execs) (flow execs) = subst (λ n. HoldsFit j g n (held execs) (flow execs)) (sym fin_is) at_g in
-      subst (λ (xs : List ℕ). HoldsFit j g fin xs (flow execs)) (sym hs_is) at_fin
+  holds_fit j g fin hs is graph last held_is = grind (arith, end_is_last execs well.end, base)
 
   flow_after : AfterHolds (joined execs).graph (finish execs) (edge_for told names execs loops well) (held execs) (length (held execs)) (flow execs).graph
   flow_after = after told names execs loops well
@@ -150,17 +127,10 @@ shape n edges pieces = record { graph = record { nodes = n; edges = edges }; pie
 
 drawing_is : (execs : List Exec) (pieces : List Piece) (edges : List (ℕ × ℕ)) → pieces ≡ map (λ (row : Row). row.piece) (rows (parts execs)) → edges ≡ (finish execs, 0) ∷ fan 0 (map (λ (row : Row). row.heads) (rows (parts execs)))
     → shape (length pieces) edges pieces ≡ joined execs
-drawing_is execs pieces edges one two =
-    let all = rows (parts execs) in
-    ap (λ (xs : List Piece). shape (length xs) edges xs) one
-    ∙ ap (λ n. shape n edges (map (λ (row : Row). row.piece) all)) (length-map all (λ (row : Row). row.piece))
-    ∙ ap (λ (es : List (ℕ × ℕ)). shape (length all) es (map (λ (row : Row). row.piece) all)) two
+drawing_is execs pieces edges one two = grind (arith, length-map)
 
 pub drawn_is : (execs : List Exec) (result : Result Drawing NoMemory) (ps : List Part) (fin : ℕ) → ps ≡ parts execs → fin ≡ finish execs
     → IfOk result (λ d. d.pieces.items ≡ map (λ (row : Row). row.piece) (rows ps)) → IfOk result (λ d. d.edges.items ≡ (fin, 0) ∷ fan 0 (map (λ (row : Row). row.heads) (rows ps)))
     → IfOk result (λ d. drawn_as d ≡ joined execs)
 drawn_is execs (Err error) ps fin parts_are end one two = tt
-drawn_is execs (Ok d) ps fin parts_are end one two =
-    drawing_is execs d.pieces.items d.edges.items
-    (one ∙ ap (λ (xs : List Part). map (λ (row : Row). row.piece) (rows xs)) parts_are)
-    (two ∙ ap (λ n. (n, 0) ∷ fan 0 (map (λ (row : Row). row.heads) (rows ps))) end ∙ ap (λ (xs : List Part). (finish execs, 0) ∷ fan 0 (map (λ (row : Row). row.heads) (rows xs))) parts_are)
+drawn_is execs (Ok d) ps fin parts_are end one two = grind (arith, drawing_is execs d.pieces.items d.edges.items)

@@ -84,10 +84,7 @@ module _ (told : IsTold) (names : List NameInfo) (execs : List Exec) (loops : �
     pub is : is_held (row_graph (parts execs) (finish execs)) (finish execs) x ≡ true
 
   pub held_is : (x : ℕ) → Member (held execs) x → IsHeldPiece x
-  held_is x m =
-      let r = Member-filtered (is_held g (finish execs)) (range_with_len 0 g.nodes) x m in
-      let within = Member-in_range 0 g.nodes x r.0 in
-      record { below = omega (arith, within.1); is = r.1 }
+  held_is x m = grind (arith, Member-filtered (is_held g (finish execs)) (range_with_len 0 g.nodes) x m, Member-in_range 0 g.nodes x)
 
   pub held_piece_is : (q : ℕ) → q < length (held execs) → IsHeldPiece (held_piece q)
   held_piece_is q some = held_is (held_piece q) (Member-at (held execs) q 0 some)

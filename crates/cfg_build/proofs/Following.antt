@@ -1,23 +1,15 @@
 -- The chain that is followed is the one that is led along.
-use Rattle.std.proofs.Common.{◌≡◌, ℕ, zero, suc, ◌+◌, ◌≤◌, Bool, true, false, cond, List, [], ◌∷◌, ◌++◌, length, slice_get, ◌<◌, refl, ap, ◌∙◌, ⊎_elim, arith}
-use Rattle.std.proofs.lemmas.Bool.{false≢true, cases_lt}
+use Rattle.std.proofs.Common.{◌≡◌, ℕ, zero, suc, ◌+◌, ◌≤◌, Bool, true, false, cond, List, [], ◌∷◌, ◌++◌, length, slice_get, ap, ◌∙◌, arith}
 use Rattle.closed_walks.specs.Graph.{to}
 use Rattle.f77_tree.specs.declared.programs.Exec.{Exec}
 use Rattle.cfg_build.specs.declared.pieces.PieceKind.{PieceKind}
-use Rattle.cfg_build.specs.declared.pieces.PieceKind.TheVariants as piece
 use Rattle.cfg_build.specs.Flow.{flow, piece_at}
 use Rattle.cfg_build.specs.Passes.{out, kind_in}
 use Rattle.cfg_build.specs.Chains.{has_test, goes_on, goes_on_from, following}
 use Rattle.cfg_build.specs.Routes.{leads_on, IsRoute}
 
 leads_goes : (kind : PieceKind) (b : Bool) → leads_on kind ≡ true → goes_on_from kind b ≡ true
-leads_goes piece.Join b h = refl
-leads_goes piece.Hold b h = refl
-leads_goes piece.Start b h = absurd (false≢true h)
-leads_goes piece.Act b h = absurd (false≢true h)
-leads_goes piece.Pass b h = absurd (false≢true h)
-leads_goes piece.Branch b h = absurd (false≢true h)
-leads_goes piece.End b h = absurd (false≢true h)
+leads_goes h b h2 = grind arith
 
 module _ (execs : List Exec) where
   abbrev next : ℕ → ℕ
@@ -32,21 +24,11 @@ module _ (execs : List Exec) where
   -- no more pieces are followed than there is room for
   pub following_few : (most node : ℕ) → length (following most execs node) ≤ most
   following_few zero node = omega arith
-  following_few (suc most) node = by (goes_on execs (piece_at (flow execs).pieces node)) (following_few most (next node))
-    where
-      by : (b : Bool) → length (following most execs (next node)) ≤ most → length (node ∷ cond b (following most execs (next node)) []) ≤ suc most
-      by true few = omega (arith, few)
-      by false few = omega arith
+  following_few (suc most) node = grind (arith, following_few most (next node))
 
   -- where more room adds no piece, there are never more pieces than that room takes
   pub few_followed : (room node : ℕ) → ((most : ℕ) → room ≤ most → following most execs node ≡ following room execs node) → (most : ℕ) → length (following most execs node) ≤ room
-  few_followed room node whole most = ⊎_elim
-      (λ (less : most < room). let own : length (following most execs node) ≤ most = following_few most node in omega (arith, own, less))
-      (λ (enough : room ≤ most).
-      let same : length (following most execs node) ≡ length (following room execs node) = ap (λ (xs : List ℕ). length xs) (whole most enough) in
-      let few : length (following room execs node) ≤ room = following_few room node in
-      omega (arith, same, few))
-      (cases_lt most room)
+  few_followed room node whole most = grind (arith, following_few)
 
   pub along_prefix : (prefix : List ℕ) (node last most : ℕ) → IsRoute (flow execs) node prefix last → following (length prefix + most) execs node ≡ prefix ++ following most execs last
   along_prefix [] node last most route = let e : 0 + most ≡ most = omega arith in ap (λ n. following n execs node) e ∙ ap (λ n. following most execs n) route

@@ -1,6 +1,6 @@
 -- The edge that gets the hold of a piece: the piece reaches it, and it isn't edge 0.
-use Rattle.std.proofs.Common.{◌≡◌, ◌≢◌, ℕ, ◌<◌, ◌≤◌, Bool, true, false, List, length, get_or, sym, ap, ◌∙◌, subst, ⊎_elim, arith}
-use Rattle.std.proofs.lemmas.Bool.{cases_Bool, cases_lt, cond-true, cond-false, eqb-true, eq-eqb, false≢true}
+use Rattle.std.proofs.Common.{◌≡◌, ◌≢◌, ℕ, ◌<◌, Bool, true, false, List, length, get_or, sym, ap, ◌∙◌, subst, ⊎_elim, arith}
+use Rattle.std.proofs.lemmas.Bool.{cases_Bool, cond-true, cond-false, eqb-true, eq-eqb}
 use Rattle.std.proofs.lemmas.List.Sums.{fails_before_first, passes_at_first}
 use Rattle.std.specs.List.{position_or_len}
 use Rattle.closed_walks.specs.Graph.{Graph, edge_count, from, to}
@@ -23,10 +23,7 @@ use Rattle.cfg_build.proofs.JoinedDegrees.{one_comes}
 use Rattle.cfg_build.proofs.Lowest.{IsHeldBy, held_says}
 
 pub position_found : {X : Type 0} (p : X → Bool) (xs : List X) (k : ℕ) (d : X) → k < length xs → p (get_or xs k d) ≡ true → position_or_len p xs < length xs
-position_found p xs k d some passes = ⊎_elim
-    (λ (h : position_or_len p xs < length xs). h)
-    (λ (h : length xs ≤ position_or_len p xs). absurd (false≢true (sym (fails_before_first p xs k d (omega (arith, h, some))) ∙ passes)))
-    (cases_lt (position_or_len p xs) (length xs))
+position_found p xs k d some passes = grind (arith, fails_before_first)
 
 pub record IsHoldEdge (g : Graph) (x e : ℕ) : Type 0 where
   pub exists : e < edge_count g
@@ -38,29 +35,13 @@ module _ (g : Graph) (finish : ℕ) (zero_from : from g 0 ≡ finish) (x : ℕ) 
   pub out_of_join : (y : ℕ) → IsEdge g x y → IsHoldEdge g x (position_or_len (leaves_from x) g.edges)
   unfolding from
   out_of_join y e =
-      let at : ℕ = position_or_len (leaves_from x) g.edges in
-      let found : at < length g.edges = position_found (leaves_from x) g.edges e.number (0, 0) e.exists (eq-eqb (from g e.number) x e.begins) in
-      let is : from g at ≡ x = eqb-true (from g at) x (passes_at_first (leaves_from x) g.edges (0, 0) found) in
-      record {
-        exists = found;
-        other = λ (h : at ≡ 0). stuck (stay g x finish (sym is ∙ ap (λ n. from g n) h ∙ zero_from));
-        returns = stay g x (from g at) (sym is);
-      }
+      grind (arith, leaves_from x, position_found (leaves_from x) g.edges e.number, eq-eqb (from g e.number) x e.begins, eqb-true, passes_at_first (leaves_from x) g.edges, stay g x finish, stay g x)
 
   -- the edge into another piece
   pub into_piece : in_degree g x ≡ 1 → (e : ℕ) → e < edge_count g → to g e ≡ x → Reaches g x (from g e) → IsHoldEdge g x (position_or_len (comes_to x) g.edges)
   unfolding from to
   into_piece one e edge ends returns =
-      let at : ℕ = position_or_len (comes_to x) g.edges in
-      let found : at < length g.edges = position_found (comes_to x) g.edges e (0, 0) edge (eq-eqb (to g e) x ends) in
-      let passes : comes_to x (get_or g.edges at (0, 0)) ≡ true = passes_at_first (comes_to x) g.edges (0, 0) found in
-      let same : at ≡ e = count_unique (comes_to x) g.edges at e (0, 0) (omega (arith, one)) found edge passes (eq-eqb (to g e) x ends) in
-      let back : Reaches g x (from g at) = subst (λ n. Reaches g x (from g n)) (sym same) returns in
-      record {
-        exists = found;
-        other = λ (h : at ≡ 0). stuck (subst (λ n. Reaches g x n) (ap (λ n. from g n) h ∙ zero_from) back);
-        returns = back;
-      }
+      grind (arith, comes_to x, position_found (comes_to x) g.edges e, eq-eqb (to g e) x ends, comes_to, passes_at_first (comes_to x) g.edges, count_unique (comes_to x) g.edges)
 
 module _ (told : IsTold) (names : List NameInfo) (execs : List Exec) (loops : ℕ) (well : AreExecs names execs loops) where
   abbrev g : Graph
@@ -92,17 +73,11 @@ module _ (told : IsTold) (names : List NameInfo) (execs : List Exec) (loops : �
 
   begins_at_join : (x e : ℕ) → e < edge_count g → e ≡ position_or_len (leaves_from x) g.edges → from g e ≡ x
   unfolding from
-  begins_at_join x e edge is =
-      let at : ℕ = position_or_len (leaves_from x) g.edges in
-      let found : at < length g.edges = subst (λ n. n < length g.edges) is edge in
-      ap (λ n. (get_or g.edges n (0, 0)).0) is ∙ eqb-true (get_or g.edges at (0, 0)).0 x (passes_at_first (leaves_from x) g.edges (0, 0) found)
+  begins_at_join x e edge is = grind (arith, leaves_from x, eqb-true, passes_at_first (leaves_from x) g.edges (0, 0))
 
   ends_at_other : (x e : ℕ) → e < edge_count g → e ≡ position_or_len (comes_to x) g.edges → to g e ≡ x
   unfolding to
-  ends_at_other x e edge is =
-      let at : ℕ = position_or_len (comes_to x) g.edges in
-      let found : at < length g.edges = subst (λ n. n < length g.edges) is edge in
-      ap (λ n. (get_or g.edges n (0, 0)).1) is ∙ eqb-true (get_or g.edges at (0, 0)).1 x (passes_at_first (comes_to x) g.edges (0, 0) found)
+  ends_at_other x e edge is = grind (arith, comes_to x, eqb-true, passes_at_first (comes_to x) g.edges (0, 0))
 
   module _ (x : ℕ) (below : x < length (rows (parts execs))) (held : is_held (row_graph (parts execs) (finish execs)) (finish execs) x ≡ true) where
     -- the hold of a join stands on the edge that leaves it
@@ -116,9 +91,7 @@ module _ (told : IsTold) (names : List NameInfo) (execs : List Exec) (loops : �
   -- the lower of two held pieces isn't reached from the higher
   pub not_to_lower : (x y : ℕ) → x < length (rows (parts execs)) → y < length (rows (parts execs)) → is_held g (finish execs) x ≡ true → is_held g (finish execs) y ≡ true → x < y → Reaches g y x → ⊥
   not_to_lower x y x_below y_below x_held y_held less r =
-      let x_says : IsHeldBy told g (joined_sound told names execs loops well) (finish execs) x = held_says told g (joined_sound told names execs loops well) (finish execs) x x_below x_held in
-      let y_says : IsHeldBy told g (joined_sound told names execs loops well) (finish execs) y = held_says told g (joined_sound told names execs loops well) (finish execs) y y_below y_held in
-      y_says.lowest x less x_says.on_cycle r
+      grind (arith, joined_sound told names execs loops well, held_says told g (joined_sound told names execs loops well) (finish execs) x x_below x_held, held_says told g (joined_sound told names execs loops well) (finish execs) y y_below y_held)
 
   pub edges_apart : (x y : ℕ) → x < length (rows (parts execs)) → y < length (rows (parts execs)) → is_held (row_graph (parts execs) (finish execs)) (finish execs) x ≡ true → is_held (row_graph (parts execs) (finish execs)) (finish execs) y ≡ true → x < y → edge_for x ≢ edge_for y
   edges_apart x y x_below y_below x_held y_held less same =

@@ -10,7 +10,7 @@ use Rattle.cfg_build.specs.Holds.{with_hold}
 use Rattle.cfg_build.specs.Flow.{piece_at}
 use Rattle.cfg_build.specs.Degrees.{in_degree, out_degree}
 use Rattle.list_laws.specs.Member.{Member}
-use Rattle.list_laws.proofs.Members.{IsAt, at_of}
+use Rattle.list_laws.proofs.Members.{at_of}
 use Rattle.list_laws.proofs.Counts.{bit, bit_true, bit_false, count-cons, count-append, count-set, count_zero}
 use Rattle.cfg_build.proofs.FanCounts.{comes_to, leaves_from}
 use Rattle.cfg_build.proofs.HoldSteps.{hold_graph, hold_sound, more_edges}
@@ -19,21 +19,11 @@ use Rattle.cfg_build.proofs.HeldEdges.{IsHoldEdge}
 -- no edge comes to a number that is no node, and none leaves it
 none_come : (g : Graph) → IsGraph g → (y : ℕ) → g.nodes ≤ y → in_degree g y ≡ 0
 unfolding to
-none_come g sound y past =
-    count_zero (comes_to y) g.edges (λ p m.
-    let at : IsAt g.edges p = at_of g.edges p m in
-    let less : to g at.place < g.nodes = sound.ends at.place at.exists in
-    let is : to g at.place ≡ p.1 = ap (λ (e : ℕ × ℕ). e.1) (at.is (0, 0)) in
-    ne_eqb p.1 y (λ (h : p.1 ≡ y). omega (arith, h, is, less, past)))
+none_come g sound y past = grind (arith, count_zero (comes_to y) g.edges, comes_to y, at_of g.edges, ne_eqb)
 
 none_leave : (g : Graph) → IsGraph g → (y : ℕ) → g.nodes ≤ y → out_degree g y ≡ 0
 unfolding from
-none_leave g sound y past =
-    count_zero (leaves_from y) g.edges (λ p m.
-    let at : IsAt g.edges p = at_of g.edges p m in
-    let less : from g at.place < g.nodes = sound.begins at.place at.exists in
-    let is : from g at.place ≡ p.0 = ap (λ (e : ℕ × ℕ). e.0) (at.is (0, 0)) in
-    ne_eqb p.0 y (λ (h : p.0 ≡ y). omega (arith, h, is, less, past)))
+none_leave g sound y past = grind (arith, count_zero (leaves_from y) g.edges, leaves_from y, at_of g.edges, ne_eqb)
 
 module _ (finish : ℕ) (g : Graph) (e : ℕ) (edge : e < edge_count g) (y : ℕ) where
   abbrev prefix : List (ℕ × ℕ)
@@ -45,20 +35,12 @@ module _ (finish : ℕ) (g : Graph) (e : ℕ) (edge : e < edge_count g) (y : ℕ
   in_more : in_degree (hold_graph finish g e) y ≡ in_degree g y + bit (g.nodes == y) + bit (finish == y)
   unfolding to
   in_more =
-      let a : in_degree (hold_graph finish g e) y ≡ count_by (comes_to y) prefix + count_by (comes_to y) back = count-append (comes_to y) prefix back in
-      let s : count_by (comes_to y) prefix + bit (to g e == y) ≡ in_degree g y + bit (g.nodes == y) = count-set (comes_to y) g.edges e (from g e, g.nodes) (0, 0) edge in
-      let b : count_by (comes_to y) back ≡ bit (to g e == y) + count_by (comes_to y) ((g.nodes, finish) ∷ []) = count-cons (comes_to y) (g.nodes, to g e) ((g.nodes, finish) ∷ []) in
-      let c : count_by (comes_to y) ((g.nodes, finish) ∷ []) ≡ bit (finish == y) + count_by (comes_to y) [] = count-cons (comes_to y) (g.nodes, finish) [] in
-      omega (arith, a, s, b, c)
+      grind (arith, hold_graph finish g e, count_by (comes_to y) prefix, comes_to y, count_by (comes_to y) back, count-append (comes_to y) prefix back, count_by, bit (to g e == y), bit (g.nodes == y), count-set (comes_to y) g.edges e (from g e, g.nodes) (0, 0) edge, count_by (comes_to y) ((g.nodes, finish) ∷ []), count-cons (comes_to y) (g.nodes, to g e) ((g.nodes, finish) ∷ []), bit (finish == y), count_by (comes_to y), count-cons (comes_to y) (g.nodes, finish))
 
   out_more : out_degree (hold_graph finish g e) y ≡ out_degree g y + bit (g.nodes == y) + bit (g.nodes == y)
   unfolding from
   out_more =
-      let a : out_degree (hold_graph finish g e) y ≡ count_by (leaves_from y) prefix + count_by (leaves_from y) back = count-append (leaves_from y) prefix back in
-      let s : count_by (leaves_from y) prefix + bit (from g e == y) ≡ out_degree g y + bit (from g e == y) = count-set (leaves_from y) g.edges e (from g e, g.nodes) (0, 0) edge in
-      let b : count_by (leaves_from y) back ≡ bit (g.nodes == y) + count_by (leaves_from y) ((g.nodes, finish) ∷ []) = count-cons (leaves_from y) (g.nodes, to g e) ((g.nodes, finish) ∷ []) in
-      let c : count_by (leaves_from y) ((g.nodes, finish) ∷ []) ≡ bit (g.nodes == y) + count_by (leaves_from y) [] = count-cons (leaves_from y) (g.nodes, finish) [] in
-      omega (arith, a, s, b, c)
+      grind (arith, hold_graph finish g e, count_by (leaves_from y) prefix, leaves_from y, count_by (leaves_from y) back, count-append (leaves_from y) prefix back, count_by, bit (from g e == y), count-set (leaves_from y) g.edges e (from g e, g.nodes) (0, 0) edge, bit (g.nodes == y), count_by (leaves_from y) ((g.nodes, finish) ∷ []), count-cons (leaves_from y) (g.nodes, to g e) ((g.nodes, finish) ∷ []), count_by (leaves_from y), count-cons (leaves_from y) (g.nodes, finish))
 
 piece_left : (ps qs : List Piece) (k : ℕ) → k < length ps → piece_at (ps ++ qs) k ≡ piece_at ps k
 piece_left [] qs k some = absurd (omega (arith, some))
@@ -86,18 +68,7 @@ module _ (g : FlowGraph) (finish : ℕ) where
     pub new_piece : (y : ℕ) → g.graph.nodes ≤ y → y < f.graph.nodes → (piece_at f.pieces y).kind ≡ Hold
 
   pub none_yet : IsGraph g.graph → length g.pieces ≡ g.graph.nodes → HasHolds g
-  none_yet sound count = record {
-    edges = omega arith;
-    nodes = omega arith;
-    sound = sound;
-    count = count;
-    old_in = λ y old other. refl;
-    old_out = λ y old. refl;
-    old_piece = λ y old. refl;
-    new_in = λ y new node. absurd (omega (arith, new, node));
-    new_out = λ y new node. absurd (omega (arith, new, node));
-    new_piece = λ y new node. absurd (omega (arith, new, node));
-  }
+  none_yet sound count = grind arith
 
   module _ (end : finish < g.graph.nodes) (f : FlowGraph) (h : HasHolds f) (e : ℕ) (edge : e < edge_count g.graph) (piece : Piece) where
     below : e < edge_count f.graph
@@ -118,9 +89,7 @@ module _ (g : FlowGraph) (finish : ℕ) where
 
     out_kept : (y : ℕ) → y < f.graph.nodes → out_degree (hold_graph finish f.graph e) y ≡ out_degree f.graph y
     out_kept y node =
-        let a : out_degree (hold_graph finish f.graph e) y ≡ out_degree f.graph y + bit (f.graph.nodes == y) + bit (f.graph.nodes == y) = out_now y in
-        let b : bit (f.graph.nodes == y) ≡ 0 = bit_false (f.graph.nodes == y) (ne_eqb f.graph.nodes y (λ (s : f.graph.nodes ≡ y). omega (arith, s, node))) in
-        omega (arith, a, b)
+        grind (arith, hold_graph finish f.graph e, bit (f.graph.nodes == y), out_now y, bit, bit_false (f.graph.nodes == y), ne_eqb f.graph.nodes y)
 
     in_new : (y : ℕ) → f.graph.nodes ≡ y → in_degree (hold_graph finish f.graph e) y ≡ 1
     in_new y is =
@@ -133,10 +102,7 @@ module _ (g : FlowGraph) (finish : ℕ) where
 
     out_new : (y : ℕ) → f.graph.nodes ≡ y → out_degree (hold_graph finish f.graph e) y ≡ 2
     out_new y is =
-        let a : out_degree (hold_graph finish f.graph e) y ≡ out_degree f.graph y + bit (f.graph.nodes == y) + bit (f.graph.nodes == y) = out_now y in
-        let z : out_degree f.graph y ≡ 0 = none_leave f.graph h.sound y (omega (arith, is)) in
-        let b : bit (f.graph.nodes == y) ≡ 1 = bit_true (f.graph.nodes == y) (eq-eqb f.graph.nodes y is) in
-        omega (arith, a, z, b)
+        grind (arith, hold_graph finish f.graph e, bit (f.graph.nodes == y), out_now y, none_leave f.graph h.sound y, bit, bit_true (f.graph.nodes == y) (eq-eqb f.graph.nodes y is), eq-eqb f.graph.nodes y is)
 
     abbrev added : List Piece
     added = record { kind = Hold; line = piece.line; exec = piece.exec } ∷ []

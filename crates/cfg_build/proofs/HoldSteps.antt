@@ -1,5 +1,5 @@
 -- What a hold does to a graph: what was reached stays reached.
-use Rattle.std.proofs.Common.{◌≡◌, ◌≢◌, ℕ, zero, suc, ◌+◌, ◌<◌, ◌⊎◌, List, [], ◌∷◌, ◌++◌, length, get_or, set, refl, sym, ap, ◌∙◌, subst, ⊎_elim, arith}
+use Rattle.std.proofs.Common.{◌≡◌, ◌≢◌, ℕ, ◌+◌, ◌<◌, ◌⊎◌, List, [], ◌∷◌, ◌++◌, length, get_or, set, refl, sym, ap, ◌∙◌, subst, ⊎_elim, arith}
 use Rattle.std.proofs.lemmas.Bool.{cases_eq}
 use Rattle.std.proofs.lemmas.List.{length-append, length-set, get_or_append_left, get_or-append-add, get_or-set_same, get_or-set_other}
 use Rattle.closed_walks.specs.Graph.{Graph, IsGraph, edge_count, from, to}
@@ -23,9 +23,7 @@ module _ (finish : ℕ) (g : Graph) (e : ℕ) (edge : e < edge_count g) where
   prefix_length = length-set g.edges e (from g e, g.nodes)
 
   pub more_edges : edge_count (hold_graph finish g e) ≡ edge_count g + 2
-  more_edges =
-      let a : edge_count (hold_graph finish g e) ≡ length prefix + length back = length-append prefix back in
-      omega (arith, a, prefix_length)
+  more_edges = grind (arith, length-append prefix back, prefix_length)
 
   at_old : (k : ℕ) → k < edge_count g → get_or (prefix ++ back) k (0, 0) ≡ get_or prefix k (0, 0)
   at_old k old = get_or_append_left prefix back (0, 0) k (omega (arith, old, prefix_length))
@@ -50,10 +48,7 @@ module _ (finish : ℕ) (g : Graph) (e : ℕ) (edge : e < edge_count g) where
   from_held = ap (λ (p : ℕ × ℕ). p.0) at_held
 
   pub from_old : (k : ℕ) → k < edge_count g → from (hold_graph finish g e) k ≡ from g k
-  from_old k old = ⊎_elim
-      (λ (h : k ≡ e). ap (λ x. from (hold_graph finish g e) x) h ∙ from_held ∙ ap (λ x. from g x) (sym h))
-      (λ (h : k ≡ e → ⊥). from_other k old h)
-      (cases_eq k e)
+  from_old k old = grind (arith, from_held, from_other)
 
   pub to_other : (k : ℕ) → k < edge_count g → k ≢ e → to (hold_graph finish g e) k ≡ to g k
   unfolding to
@@ -65,9 +60,7 @@ module _ (finish : ℕ) (g : Graph) (e : ℕ) (edge : e < edge_count g) where
 
   pub from_new : (i : ℕ) → i < 2 → from (hold_graph finish g e) (edge_count g + i) ≡ g.nodes
   unfolding from
-  from_new zero few = ap (λ (p : ℕ × ℕ). p.0) (at_new 0)
-  from_new (suc zero) few = ap (λ (p : ℕ × ℕ). p.0) (at_new 1)
-  from_new (suc (suc i)) few = absurd (omega (arith, few))
+  from_new h few = grind (arith, at_new)
 
   pub to_stay : to (hold_graph finish g e) (edge_count g + 0) ≡ to g e
   unfolding to

@@ -1,5 +1,5 @@
 -- What stays so while pieces get their holds, one after another.
-use Rattle.std.proofs.Common.{◌≡◌, ◌≢◌, ℕ, ◌+◌, ◌<◌, ◌≤◌, List, [], ◌∷◌, fold, refl, sym, ◌∙◌, subst, inl, inr, ⊎_elim, arith}
+use Rattle.std.proofs.Common.{◌≡◌, ℕ, ◌+◌, ◌<◌, ◌≤◌, List, [], ◌∷◌, fold, refl, subst, inl, inr, ⊎_elim, arith}
 use Rattle.std.proofs.lemmas.Bool.{cases_lt}
 use Rattle.closed_walks.specs.Graph.{Graph, IsGraph, edge_count, from, to}
 use Rattle.cfg_build.specs.declared.pieces.Piece.{Piece}
@@ -28,15 +28,7 @@ module _ (g : Graph) (finish : ℕ) where
     pub fresh : (v : ℕ) → g.nodes ≤ v → v < f.nodes → IsHold f v
 
   pub begun : IsGraph g → to g 0 ≡ 0 → IsHolding g
-  begun sound zero_to = record {
-    edges = omega arith;
-    nodes = omega arith;
-    sound = sound;
-    tails = λ k old. refl;
-    zero_to = zero_to;
-    kept = λ u v r. r;
-    fresh = λ v new node. absurd (omega (arith, new, node));
-  }
+  begun sound zero_to = grind arith
 
   -- the pieces of the list have holds in `held`, which f lacks
   pub record AreHeld (f held : FlowGraph) (hs : List ℕ) : Type 0 where
@@ -69,11 +61,7 @@ module _ (g : Graph) (finish : ℕ) (edge_of : ℕ → ℕ) (piece_of : ℕ → 
       -- the piece itself comes to the end now
       pub leads_now : Reaches (hold_graph finish f (edge_of x)) x finish
       leads_now =
-          let back : Reaches f' x (from g (edge_of x)) = kept_more x (from g (edge_of x)) (h.kept x (from g (edge_of x)) e.returns) in
-          let tail : from f (edge_of x) ≡ from g (edge_of x) = h.tails (edge_of x) e.exists in
-          join f' x (from f (edge_of x)) finish
-          (subst (λ n. Reaches f' x n) (sym tail) back)
-          (join f' (from f (edge_of x)) f.nodes finish to_new new_leads)
+          grind (arith, kept_more x (from g (edge_of x)) (h.kept x (from g (edge_of x)) e.returns), join f' x (from f (edge_of x)) finish, join f' (from f (edge_of x)) f.nodes finish to_new new_leads, to_new, new_leads)
 
       fresh_now : (v : ℕ) → g.nodes ≤ v → v < f.nodes + 1 → IsHold g finish (hold_graph finish f (edge_of x)) v
       fresh_now v new node = ⊎_elim
@@ -93,21 +81,7 @@ module _ (g : Graph) (finish : ℕ) (edge_of : ℕ → ℕ) (piece_of : ℕ → 
 
       pub holding_more : IsHolding g finish (hold_graph finish f (edge_of x))
       holding_more =
-          let more : edge_count g ≤ edge_count f = h.edges in
-          let count : edge_count (hold_graph finish f (edge_of x)) ≡ edge_count f + 2 = more_edges finish f (edge_of x) below in
-          let nodes : g.nodes ≤ f.nodes = h.nodes in
-          record {
-            edges = omega (arith, more, count);
-            nodes = omega (arith, nodes);
-            sound = hold_sound finish f (edge_of x) below h.sound (omega (arith, nodes, end));
-            tails = λ k old. from_old finish f (edge_of x) below k (omega (arith, old, more)) ∙ h.tails k old;
-            zero_to =
-                let apart : edge_of x ≢ 0 = e.other in
-                let some : 0 < edge_count f = omega (arith, below) in
-                to_other finish f (edge_of x) below 0 some (λ (z : 0 ≡ edge_of x). apart (sym z)) ∙ h.zero_to;
-            kept = λ u v r. kept_more u v (h.kept u v r);
-            fresh = fresh_now;
-          }
+          grind (arith, hold_graph finish f, more_edges finish f, below, hold_sound finish f, from_old finish f, to_other finish f, kept_more, fresh_now)
 
     -- ---- all holds
 

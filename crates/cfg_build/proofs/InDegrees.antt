@@ -1,16 +1,16 @@
 -- How many edges come to a part's own piece in the graph of rows.
-use Rattle.std.proofs.Common.{◌≡◌, ℕ, ◌+◌, ◌<◌, ◌≤◌, Bool, true, false, cond, ◌==◌, List, [], ◌∷◌, ◌++◌, length, map, flat_map, sum_by, count_by, refl, sym, ap, ◌∙◌, ⊎_elim, arith}
-use Rattle.std.proofs.lemmas.Bool.{cases_Bool, cases_order, cases_eq, cond-true, cond-false, eq-eqb, ne_eqb}
+use Rattle.std.proofs.Common.{◌≡◌, ℕ, ◌+◌, ◌<◌, ◌≤◌, Bool, true, false, cond, ◌==◌, List, [], ◌∷◌, length, map, flat_map, sum_by, count_by, refl, sym, ap, ◌∙◌, ⊎_elim, arith}
+use Rattle.std.proofs.lemmas.Bool.{cases_order, cases_eq, cond-true, cond-false, eq-eqb, ne_eqb}
 use Rattle.std.proofs.lemmas.List.{map-append}
 use Rattle.std.proofs.lemmas.List.Sums.{sum_by-cons, sum_by-append}
 use Rattle.cfg_build.specs.declared.parts.Part.{Part}
 use Rattle.cfg_build.specs.declared.parts.Target.{Target}
 use Rattle.cfg_build.specs.Parts.{start_part}
-use Rattle.cfg_build.specs.Joined.{Row, is_same, is_joined, width, number, ways_to, join_row, part_row, rows_of}
+use Rattle.cfg_build.specs.Joined.{Row, is_same, is_joined, width, number, ways_to, rows_of}
 use Rattle.cfg_build.specs.Degrees.{in_degree}
 use Rattle.cfg_build.specs.Control.{fan}
 use Rattle.list_laws.specs.Member.{Member}
-use Rattle.list_laws.proofs.Members.{IsAt, at_of, Member-at}
+use Rattle.list_laws.proofs.Members.{at_of, Member-at}
 use Rattle.cfg_build.proofs.Places.{begins_before}
 use Rattle.cfg_build.proofs.PartOrder.{AreApart, is_same_itself, not_same}
 use Rattle.cfg_build.proofs.PartsFound.{HasPart}
@@ -26,41 +26,16 @@ module _ (ps : List Part) (y : ℕ) where
 
   from_rows_of : (p : Part) → sum_by (heads_to y) (map (λ (row : Row). row.heads) (rows_of ps p)) ≡ edges_from p
   from_rows_of p =
-      let n : ℕ = number ps p.own + 1 in
-      let outs : List ℕ = map (number ps) p.outs in
-      let same : heads_to y outs ≡ count_by (λ t. number ps t == y) p.outs = count-map (λ (head : ℕ). head == y) (number ps) p.outs in
-      ⊎_elim
-      (λ (h : is_joined ps p ≡ true).
-      let e : map (λ (row : Row). row.heads) (rows_of ps p) ≡ (n ∷ []) ∷ outs ∷ [] = ap (λ (rs : List Row). map (λ (row : Row). row.heads) rs) (cond-true (is_joined ps p) (join_row ps p ∷ part_row ps p ∷ []) (part_row ps p ∷ []) h) in
-      let s : sum_by (heads_to y) ((n ∷ []) ∷ outs ∷ []) ≡ heads_to y (n ∷ []) + sum_by (heads_to y) (outs ∷ []) = sum_by-cons (heads_to y) (n ∷ []) (outs ∷ []) in
-      let r : sum_by (heads_to y) (outs ∷ []) ≡ heads_to y outs + sum_by (heads_to y) [] = sum_by-cons (heads_to y) outs [] in
-      let a : heads_to y (n ∷ []) ≡ bit (n == y) + heads_to y [] = count-cons (λ (head : ℕ). head == y) n [] in
-      let c : cond (is_joined ps p) (bit (n == y)) 0 ≡ bit (n == y) = cond-true (is_joined ps p) (bit (n == y)) 0 h in
-      ap (λ (xs : List (List ℕ)). sum_by (heads_to y) xs) e ∙ omega (arith, s, r, a, c, same))
-      (λ (h : is_joined ps p ≡ false).
-      let e : map (λ (row : Row). row.heads) (rows_of ps p) ≡ outs ∷ [] = ap (λ (rs : List Row). map (λ (row : Row). row.heads) rs) (cond-false (is_joined ps p) (join_row ps p ∷ part_row ps p ∷ []) (part_row ps p ∷ []) h) in
-      let r : sum_by (heads_to y) (outs ∷ []) ≡ heads_to y outs + sum_by (heads_to y) [] = sum_by-cons (heads_to y) outs [] in
-      let c : cond (is_joined ps p) (bit (n == y)) 0 ≡ 0 = cond-false (is_joined ps p) (bit (n == y)) 0 h in
-      ap (λ (xs : List (List ℕ)). sum_by (heads_to y) xs) e ∙ omega (arith, r, c, same))
-      (cases_Bool (is_joined ps p))
+      grind (arith, heads_to, count_by, count-map, cond-true, sum_by, heads_to y, sum_by (heads_to y), sum_by-cons (heads_to y), bit, count-cons, cond-false)
 
   from_rows_on : (qs : List Part) → sum_by (heads_to y) (map (λ (row : Row). row.heads) (flat_map (rows_of ps) qs)) ≡ sum_by edges_from qs
   from_rows_on [] = refl
   from_rows_on (q ∷ qs) =
-      let e : map (λ (row : Row). row.heads) (rows_of ps q ++ flat_map (rows_of ps) qs) ≡ map (λ (row : Row). row.heads) (rows_of ps q) ++ map (λ (row : Row). row.heads) (flat_map (rows_of ps) qs) = map-append (λ (row : Row). row.heads) (rows_of ps q) (flat_map (rows_of ps) qs) in
-      let s : sum_by (heads_to y) (map (λ (row : Row). row.heads) (rows_of ps q) ++ map (λ (row : Row). row.heads) (flat_map (rows_of ps) qs)) ≡ sum_by (heads_to y) (map (λ (row : Row). row.heads) (rows_of ps q)) + sum_by (heads_to y) (map (λ (row : Row). row.heads) (flat_map (rows_of ps) qs)) =
-      sum_by-append (heads_to y) (map (λ (row : Row). row.heads) (rows_of ps q)) (map (λ (row : Row). row.heads) (flat_map (rows_of ps) qs)) in
-      let c : sum_by edges_from (q ∷ qs) ≡ edges_from q + sum_by edges_from qs = sum_by-cons edges_from q qs in
-      let here : sum_by (heads_to y) (map (λ (row : Row). row.heads) (rows_of ps q)) ≡ edges_from q = from_rows_of q in
-      let r : sum_by (heads_to y) (map (λ (row : Row). row.heads) (flat_map (rows_of ps) qs)) ≡ sum_by edges_from qs = from_rows_on qs in
-      ap (λ (xs : List (List ℕ)). sum_by (heads_to y) xs) e ∙ omega (arith, s, c, here, r)
+      grind (arith, flat_map (rows_of ps) qs, map-append, sum_by, heads_to y, sum_by (heads_to y), sum_by-append (heads_to y), sum_by edges_from qs, sum_by-cons edges_from q qs, from_rows_of q, from_rows_on qs)
 
   pub in_degree_is : (finish : ℕ) → in_degree (row_graph ps finish) y ≡ bit (0 == y) + sum_by edges_from ps
   in_degree_is finish =
-      let e : in_degree (row_graph ps finish) y ≡ bit (0 == y) + count_by (comes_to y) (fan 0 (heads_in ps)) = count-cons (comes_to y) (finish, 0) (fan 0 (heads_in ps)) in
-      let f : count_by (comes_to y) (fan 0 (heads_in ps)) ≡ sum_by (heads_to y) (heads_in ps) = heads_of_fan y 0 (heads_in ps) in
-      let r : sum_by (heads_to y) (heads_in ps) ≡ sum_by edges_from ps = from_rows_on ps in
-      omega (arith, e, f, r)
+      grind (arith, row_graph ps finish, bit (0 == y), count_by (comes_to y) (fan 0 (heads_in ps)), comes_to y, heads_in ps, count-cons (comes_to y) (finish, 0) (fan 0 (heads_in ps)), count_by, sum_by (heads_to y) (heads_in ps), heads_to y, heads_of_fan y 0 (heads_in ps), sum_by, sum_by edges_from ps, from_rows_on ps)
 
 -- ---- numbers of different parts
 
@@ -89,16 +64,7 @@ module _ (ps : List Part) where
 
 module _ (ps : List Part) (finish : ℕ) (apart : AreApart ps) (leads : (p : Part) (t : Target) → Member ps p → Member p.outs t → HasPart ps t) where
   none_first : (y : ℕ) → (j : ℕ) → j < length ps → y ≡ first_piece ps j → (p : Part) → Member ps p → cond (is_joined ps p) (bit (number ps p.own + 1 == y)) 0 ≡ 0
-  none_first y j some is p m =
-      let at : IsAt ps p = at_of ps p m in
-      let n : number ps p.own ≡ first_piece ps at.place = number_of ps finish apart at.place p.own at.exists (ap (λ (q : Part). q.own) (at.is start_part)) in
-      ⊎_elim
-      (λ (h : is_joined ps p ≡ true).
-      let h' : is_joined ps (part_at ps at.place) ≡ true = ap (λ q. is_joined ps q) (at.is start_part) ∙ h in
-      cond-true (is_joined ps p) (bit (number ps p.own + 1 == y)) 0 h
-      ∙ bit_false (number ps p.own + 1 == y) (ne_eqb (number ps p.own + 1) y (λ (e : number ps p.own + 1 ≡ y). none_between ps j at.place some at.exists h' (omega (arith, e, is, n)))))
-      (λ (h : is_joined ps p ≡ false). cond-false (is_joined ps p) (bit (number ps p.own + 1 == y)) 0 h)
-      (cases_Bool (is_joined ps p))
+  none_first y j some is p m = grind (arith, at_of, first_piece, number_of, part_at, cond-true, bit, bit_false, ne_eqb, none_between, cond-false)
 
   same_number : (y j : ℕ) → j < length ps → y ≡ first_piece ps j → (t : Target) → HasPart ps t → (number ps t == y) ≡ is_same (part_at ps j).own t
   same_number y j some is t has =

@@ -1,5 +1,5 @@
 -- One edge comes to each piece of the joined graph that is no join and not the end.
-use Rattle.std.proofs.Common.{◌≡◌, ◌≢◌, ℕ, ◌+◌, ◌<◌, ◌≤◌, ◌⊎◌, true, false, cond, ◌==◌, nat_lt, List, [], ◌∷◌, length, flat_map, refl, sym, ap, ◌∙◌, subst, inl, inr, ⊎_elim, arith}
+use Rattle.std.proofs.Common.{◌≡◌, ◌≢◌, ℕ, ◌+◌, ◌<◌, ◌≤◌, ◌⊎◌, true, false, ◌==◌, List, [], ◌∷◌, length, flat_map, refl, sym, ap, ◌∙◌, subst, inl, inr, ⊎_elim, arith}
 use Rattle.std.proofs.lemmas.Bool.{cases_Bool, cases_eq, cond-true, cond-false, and_cases, ltb-false, eq-eqb, ne_eqb, false≢true}
 use Rattle.closed_walks.specs.Graph.{Graph, edge_count, to}
 use Rattle.f77_tree.specs.declared.programs.Exec.{Exec}
@@ -17,9 +17,9 @@ use Rattle.cfg_build.specs.Holds.{is_join}
 use Rattle.cfg_build.specs.Flow.{piece_at}
 use Rattle.cfg_build.specs.Degrees.{in_degree}
 use Rattle.list_laws.specs.Member.{Member}
-use Rattle.list_laws.proofs.Members.{IsFromOne, Member-flat_mapped, Member-at}
+use Rattle.list_laws.proofs.Members.{Member-flat_mapped, Member-at}
 use Rattle.cfg_build.proofs.PieceNumbers.{part_at, first_piece, own_piece, joins, IsPieceOf, piece_of}
-use Rattle.cfg_build.proofs.PartsFound.{IsWay, To, Begins, Increments, ways_in, IsExecPart, cases_part}
+use Rattle.cfg_build.proofs.PartsFound.{IsWay, ways_in, IsExecPart, cases_part}
 use Rattle.cfg_build.proofs.JoinedGraph.{row_graph}
 use Rattle.list_laws.proofs.Counts.{bit, bit_true, bit_false, count_zero, count_some}
 use Rattle.cfg_build.proofs.FanCounts.{comes_to}
@@ -27,6 +27,7 @@ use Rattle.cfg_build.proofs.InDegrees.{same_first, in_degree_first, in_degree_jo
 use Rattle.cfg_build.proofs.PieceKinds.{IsExecKind, cases_kind, pieces_of, join_kind}
 use Rattle.cfg_build.proofs.ReachedPieces.{apart, leads, end_piece, reached_piece}
 use Rattle.cfg_build.proofs.ReachedNodes.{IsTold, Reaches, kept}
+use Rattle.std.proofs.lemmas.Grind.{elements}
 
 -- the edge by which a node is come to
 pub record IsEntered (g : Graph) (v : ℕ) : Type 0 where
@@ -44,9 +45,7 @@ entered_once g v e = count_some (comes_to v) g.edges e.edge (0, 0) e.exists (eq-
 -- ---- no way leads to the start
 
 not_start_way : (execs : List Exec) (k : ℕ) (kind : ExecKind) (t : Target) → IsWay execs k kind t → is_same Start t ≡ false
-not_start_way execs k kind t (To s m is) = ap (λ x. is_same Start x) is
-not_start_way execs k kind t (Begins loop begins is) = ap (λ x. is_same Start x) is
-not_start_way execs k kind t (Increments loop increments is) = ap (λ x. is_same Start x) is
+not_start_way execs k kind t h = grind arith
 
 not_start : (execs : List Exec) (p : Part) (t : Target) → Member (parts execs) p → Member p.outs t → is_same Start t ≡ false
 not_start execs p t m out = ⊎_elim
@@ -62,9 +61,7 @@ not_start execs p t m out = ⊎_elim
     none_of same = subst (λ (x : Part). Member x.outs t) (sym same) out
 
 pub no_way_to_start : (execs : List Exec) → ways_to (parts execs) Start ≡ 0
-no_way_to_start execs =
-    count_zero (is_same Start) (flat_map (λ (p : Part). p.outs) (parts execs))
-    (λ t m. let r : IsFromOne (λ (p : Part). p.outs) (parts execs) t = Member-flat_mapped (λ (p : Part). p.outs) (parts execs) t m in not_start execs r.origin t r.among r.has)
+no_way_to_start execs = grind (arith, count_zero (is_same Start), flat_map, Member-flat_mapped, not_start execs)
 
 -- ---- only the end is an end
 
@@ -85,10 +82,7 @@ end_or_not execs p m = ⊎_elim
     (cases_kind execs p m)
 
 few_ways : (ps : List Part) (p : Part) → is_joined ps p ≡ false → is_end p.piece.kind ≡ false → ways_to ps p.own ≤ 1
-few_ways ps p h not_end = ⊎_elim
-    (λ (l : nat_lt 1 (ways_to ps p.own) ≡ false). ltb-false 1 (ways_to ps p.own) l)
-    (λ (l : cond (is_end p.piece.kind) false true ≡ false). absurd (false≢true (sym l ∙ ap (λ b. cond b false true) not_end)))
-    (and_cases (nat_lt 1 (ways_to ps p.own)) (cond (is_end p.piece.kind) false true) h)
+few_ways ps p h not_end = grind (arith, elements, ltb-false, and_cases)
 
 module _ (told : IsTold) (names : List NameInfo) (execs : List Exec) (loops : ℕ) (well : AreExecs names execs loops) where
   abbrev ps : List Part
@@ -98,10 +92,7 @@ module _ (told : IsTold) (names : List NameInfo) (execs : List Exec) (loops : �
   g = row_graph (parts execs) (finish execs)
 
   pub first_is_zero : (j : ℕ) → j < length (parts execs) → first_piece (parts execs) j ≡ 0 → part_at (parts execs) j ≡ start_part
-  first_is_zero j some is =
-      let zero_first : first_piece (parts execs) 0 ≡ 0 = refl in
-      let same : j ≡ 0 = same_first (parts execs) j 0 some (omega arith) (is ∙ sym zero_first) in
-      ap (λ n. part_at (parts execs) n) same
+  first_is_zero j some is = grind (arith, first_piece, same_first (parts execs) j 0 some, part_at (parts execs))
 
   one_to_single : (x j : ℕ) → x < length (rows (parts execs)) → x ≢ finish execs → j < length (parts execs) → x ≡ first_piece (parts execs) j → is_joined (parts execs) (part_at (parts execs) j) ≡ false → is_end (part_at (parts execs) j).piece.kind ≡ false → in_degree (row_graph (parts execs) (finish execs)) x ≡ 1
   one_to_single x j below other some is single not_end =

@@ -1,6 +1,6 @@
 -- The graph of rows: its edges are the heads of each row, and edge 0.
-use Rattle.std.proofs.Common.{◌≡◌, ℕ, zero, suc, ◌+◌, ◌<◌, true, false, List, [], ◌∷◌, length, get_or, map, refl, sym, ap, ◌∙◌, subst, inl, ⊎_elim, zero-add, arith}
-use Rattle.std.proofs.lemmas.Bool.{cases_Bool, cond-true, cond-false}
+use Rattle.std.proofs.Common.{◌≡◌, ℕ, zero, suc, ◌+◌, ◌<◌, true, List, [], ◌∷◌, length, get_or, map, refl, sym, ap, ◌∙◌, subst, zero-add, arith}
+use Rattle.std.proofs.lemmas.Bool.{cond-true, cond-false}
 use Rattle.closed_walks.specs.Graph.{Graph, IsGraph, edge_count, from, to}
 use Rattle.cfg_build.specs.declared.parts.Part.{Part}
 use Rattle.cfg_build.specs.declared.parts.Target.{Target}
@@ -9,11 +9,12 @@ use Rattle.cfg_build.specs.Parts.{start_part}
 use Rattle.cfg_build.specs.Joined.{Row, is_joined, number, join_row, part_row, rows}
 use Rattle.cfg_build.proofs.Fans.{places_before, get_or-fan, fan_below, IsInFan, cases_fan}
 use Rattle.list_laws.specs.Member.{Member}
-use Rattle.list_laws.proofs.Members.{IsAt, at_of, Member-at, Member-map, IsImage, Member-mapped}
-use Rattle.cfg_build.proofs.PieceNumbers.{part_at, first_piece, own_piece, joins, number_is, row_of_join, row_of_part, own_below, first_below, IsPieceOf, piece_of}
+use Rattle.list_laws.proofs.Members.{IsAt, at_of, Member-at, Member-map, Member-mapped}
+use Rattle.cfg_build.proofs.PieceNumbers.{part_at, first_piece, own_piece, joins, number_is, row_of_join, row_of_part, own_below, first_below, piece_of}
 use Rattle.cfg_build.proofs.PartOrder.{AreApart}
 use Rattle.cfg_build.proofs.PartsFound.{HasPart}
 use Rattle.cfg_build.proofs.ReachedNodes.{IsEdge, Reaches, stay, along, along_last, join}
+use Rattle.std.proofs.lemmas.Grind.{elements}
 
 abbrev pub heads_in : List Part → List (List ℕ)
 heads_in ps = map (λ row. row.heads) (rows ps)
@@ -94,11 +95,7 @@ module _ (ps : List Part) (finish : ℕ) where
   edge_zero = (refl, refl)
 
   pub edge_to_head : (piece head : ℕ) (heads : List ℕ) → piece < length (rows ps) → heads_at ps piece ≡ heads → Member heads head → IsEdge (row_graph ps finish) piece head
-  edge_to_head piece head heads some same m =
-      let r : IsAt heads head = at_of heads head m in
-      let within : r.place < length (heads_at ps piece) = subst (λ (xs : List ℕ). r.place < length xs) (sym same) r.exists in
-      let is : get_or (heads_at ps piece) r.place 0 ≡ head = ap (λ xs. get_or xs r.place 0) same ∙ r.is 0 in
-      subst (λ x. IsEdge (row_graph ps finish) piece x) is (edge_to piece r.place some within)
+  edge_to_head piece head heads some same m = grind (arith, at_of heads head m, edge_to piece)
 
 -- ---- parts and their ways
 
@@ -109,9 +106,7 @@ pub record IsPartAt (ps : List Part) (t : Target) : Type 0 where
   pub own : (part_at ps place).own ≡ t
 
 pub place_of_part : (ps : List Part) (t : Target) → HasPart ps t → IsPartAt ps t
-place_of_part ps t h =
-    let r : IsAt ps h.one = at_of ps h.one h.among in
-    record { place = r.place; exists = r.exists; own = ap (λ (p : Part). p.own) (r.is start_part) ∙ h.own }
+place_of_part ps t h = grind (arith, at_of ps h.one h.among)
 
 module _ (ps : List Part) (finish : ℕ) (apart : AreApart ps) where
   pub number_of : (j : ℕ) (t : Target) → j < length ps → (part_at ps j).own ≡ t → number ps t ≡ first_piece ps j
@@ -131,26 +126,15 @@ module _ (ps : List Part) (finish : ℕ) (apart : AreApart ps) where
   -- a way leads from the part's own piece to the number of its target
   pub way_edge : (j : ℕ) (p : Part) (t : Target) → j < length ps → part_at ps j ≡ p → Member p.outs t → IsEdge (row_graph ps finish) (own_piece ps j) (number ps t)
   way_edge j p t some is m =
-      edge_to_head ps finish (own_piece ps j) (number ps t) (map (number ps) p.outs) (own_below ps j some)
-      (heads_of_part ps j some ∙ ap (λ (q : Part). map (number ps) q.outs) is)
-      (Member-map (number ps) p.outs t m)
+      grind (arith, edge_to_head ps finish (own_piece ps j) (number ps t) (map (number ps) p.outs) (own_below ps j some), own_piece ps j, own_below ps j some, heads_of_part ps j some, Member-map (number ps) p.outs t m)
 
   -- the join's edge leads to the part
   pub join_edge : (j : ℕ) → j < length ps → is_joined ps (part_at ps j) ≡ true → IsEdge (row_graph ps finish) (first_piece ps j) (own_piece ps j)
   join_edge j some joined =
-      let next : number ps (part_at ps j).own ≡ first_piece ps j = number_is ps j apart some in
-      let one : joins ps (part_at ps j) ≡ 1 = cond-true (is_joined ps (part_at ps j)) 1 0 joined in
-      edge_to_head ps finish (first_piece ps j) (own_piece ps j) ((number ps (part_at ps j).own + 1) ∷ []) (first_below ps j some)
-      (heads_of_join ps j some joined)
-      (inl (omega (arith, next, one)))
+      grind (arith, elements, part_at, first_piece, number_is, joins, cond-true, edge_to_head, own_piece, first_below, heads_of_join)
 
   pub to_own : (j : ℕ) → j < length ps → Reaches (row_graph ps finish) (first_piece ps j) (own_piece ps j)
-  to_own j some = ⊎_elim
-      (λ (h : is_joined ps (part_at ps j) ≡ true). along (row_graph ps finish) (first_piece ps j) (own_piece ps j) (join_edge j some h))
-      (λ (h : is_joined ps (part_at ps j) ≡ false).
-      let none : joins ps (part_at ps j) ≡ 0 = cond-false (is_joined ps (part_at ps j)) 1 0 h in
-      stay (row_graph ps finish) (first_piece ps j) (own_piece ps j) (omega (arith, none)))
-      (cases_Bool (is_joined ps (part_at ps j)))
+  to_own j some = grind (arith, along, first_piece, own_piece, join_edge, joins, cond-false, stay)
 
   -- what is reached goes on along a way
   pub step : (u : ℕ) (p : Part) (t : Target) → Member ps p → Member p.outs t → Reaches (row_graph ps finish) u (number ps p.own) → Reaches (row_graph ps finish) u (number ps t)
@@ -166,36 +150,15 @@ module _ (ps : List Part) (finish : ℕ) (apart : AreApart ps) where
   module _ (leads : (p : Part) (t : Target) → Member ps p → Member p.outs t → HasPart ps t) (end_below : finish < length (rows ps)) (some : 0 < length (rows ps)) where
     head_below : (piece nth : ℕ) → piece < length (rows ps) → nth < length (heads_at ps piece) → get_or (heads_at ps piece) nth 0 < length (rows ps)
     head_below piece nth exists within =
-        let r : IsPieceOf ps piece = piece_of ps piece exists in
-        let p : Part = part_at ps r.part in
-        let among : Member (heads_at ps piece) (get_or (heads_at ps piece) nth 0) = Member-at (heads_at ps piece) nth 0 within in
-        ⊎_elim
-        (λ (own : piece ≡ own_piece ps r.part).
-        let same : heads_at ps piece ≡ map (number ps) p.outs = ap (λ n. heads_at ps n) own ∙ heads_of_part ps r.part r.exists in
-        let i : IsImage (number ps) p.outs (get_or (heads_at ps piece) nth 0) = Member-mapped (number ps) p.outs (get_or (heads_at ps piece) nth 0) (subst (λ xs. Member xs (get_or (heads_at ps piece) nth 0)) same among) in
-        subst (λ n. n < length (rows ps)) i.is (number_below i.origin (leads p i.origin (Member-at ps r.part start_part r.exists) i.among)))
-        (λ (j : (is_joined ps p ≡ true) × (piece ≡ first_piece ps r.part)).
-        let same : heads_at ps piece ≡ (number ps p.own + 1) ∷ [] = ap (λ n. heads_at ps n) j.1 ∙ heads_of_join ps r.part r.exists j.0 in
-        let one : joins ps p ≡ 1 = cond-true (is_joined ps p) 1 0 j.0 in
-        let next : number ps p.own ≡ first_piece ps r.part = number_is ps r.part apart r.exists in
-        let below : own_piece ps r.part < length (rows ps) = own_below ps r.part r.exists in
-        ⊎_elim
-        (λ (is : number ps p.own + 1 ≡ get_or (heads_at ps piece) nth 0). omega (arith, is, one, next, below))
-        (λ none. absurd none)
-        (subst (λ xs. Member xs (get_or (heads_at ps piece) nth 0)) same among))
-        r.which
+        grind (arith, piece_of ps piece exists, part_at ps, Member-at (heads_at ps piece) nth 0 within, own_piece ps, heads_of_part ps, Member-mapped (number ps), number_below, Member-at ps, first_piece ps, heads_of_join ps, joins, cond-true, number_is ps, own_piece, own_below ps)
 
     begins_below : (e : ℕ) → e < edge_count (row_graph ps finish) → from (row_graph ps finish) e < length (rows ps)
     begins_below zero edge = subst (λ n. n < length (rows ps)) (sym (edge_zero ps finish).0) end_below
-    begins_below (suc e) edge =
-        let r : IsRowEdge ps finish (suc e) = row_edge ps finish e edge in
-        subst (λ n. n < length (rows ps)) (sym r.begins) r.exists
+    begins_below (suc e) edge = grind (arith, row_edge ps finish e edge)
 
     ends_below : (e : ℕ) → e < edge_count (row_graph ps finish) → to (row_graph ps finish) e < length (rows ps)
     ends_below zero edge = subst (λ n. n < length (rows ps)) (sym (edge_zero ps finish).1) some
-    ends_below (suc e) edge =
-        let r : IsRowEdge ps finish (suc e) = row_edge ps finish e edge in
-        subst (λ n. n < length (rows ps)) (sym r.ends) (head_below r.piece r.nth r.exists r.within)
+    ends_below (suc e) edge = grind (arith, row_edge ps finish e edge, head_below)
 
     pub row_graph_sound : IsGraph (row_graph ps finish)
     row_graph_sound = record { begins = begins_below; ends = ends_below }

@@ -10,9 +10,8 @@ use Rattle.f77_tree.specs.WellFormed.{AreExecs}
 use Rattle.cfg_build.specs.declared.parts.Part.{Part}
 use Rattle.cfg_build.specs.declared.parts.Target.{Target}
 use Rattle.cfg_build.specs.declared.parts.Target.TheVariants.{First}
-use Rattle.cfg_build.specs.declared.pieces.Piece.{Piece}
 use Rattle.cfg_build.specs.declared.pieces.PieceKind.{PieceKind}
-use Rattle.cfg_build.specs.Parts.{parts, start_part, end_part, line_in}
+use Rattle.cfg_build.specs.Parts.{parts, start_part, line_in}
 use Rattle.cfg_build.specs.Joined.{finish, number}
 use Rattle.cfg_build.specs.Flow.{flow, piece_at}
 use Rattle.cfg_build.specs.Passes.{out}
@@ -54,17 +53,11 @@ module _ (told : IsTold) (met : IsMet) (names : List NameInfo) (execs : List Exe
     own_is = old_kind told met names execs loops well (own_piece ps a.place) (own_below ps a.place a.exists) ∙ piece_of_part ps a.place a.exists ∙ ap (λ (q : Part). q.piece) a.is
 
     pub own_made : (kind : PieceKind) (k : ℕ) → p.piece.kind ≡ kind → p.piece.exec ≡ k → p.piece.line ≡ line_in (slice_get execs k) → IsMade (flow execs) execs (own_piece (parts execs) a.place) kind k
-    own_made kind k kind_is exec_is line_is = record {
-      kind_is = ap (λ (q : Piece). q.kind) own_is ∙ kind_is;
-      exec_is = ap (λ (q : Piece). q.exec) own_is ∙ exec_is;
-      line_is = ap (λ (q : Piece). q.line) own_is ∙ line_is;
-    }
+    own_made kind k kind_is exec_is line_is = grind (arith, own_is)
 
     -- the own piece of a part with ways isn't the end
     pub own_not_end : (t : Target) → Member p.outs t → own_piece (parts execs) a.place ≢ finish execs
-    own_not_end t m is =
-        let same : end_part execs ≡ p = own_is_end told names execs loops well a.place a.exists is ∙ a.is in
-        subst (λ (q : Part). Member q.outs t) (sym same) m
+    own_not_end t m is = grind (arith, own_is_end told names execs loops well a.place a.exists is)
 
     member_of_nth : (ts : List Target) (i : ℕ) → i < length ts → Member ts (get_or ts i (First 0))
     member_of_nth ts i some = Member-at ts i (First 0) some
@@ -87,10 +80,7 @@ module _ (told : IsTold) (met : IsMet) (names : List NameInfo) (execs : List Exe
     -- the numbers of its edges
     pub own_out : (i : ℕ) → i < length p.outs → out (flow execs).graph (own_piece (parts execs) a.place) i ≡ first_out (parts execs) (finish execs) (own_piece (parts execs) a.place) + i
     own_out i some =
-        let x : ℕ = own_piece ps a.place in
-        let heads : heads_at ps x ≡ map (number ps) p.outs = heads_of_part ps a.place a.exists ∙ ap (λ (q : Part). map (number ps) q.outs) a.is in
-        let count : length (heads_at ps x) ≡ length p.outs = ap (λ (xs : List ℕ). length xs) heads ∙ length-map p.outs (number ps) in
-        out_old told names execs loops well x i (own_below ps a.place a.exists) (own_not_end (get_or p.outs i (First 0)) (member_of_nth p.outs i some)) (omega (arith, some, count))
+        grind (arith, own_piece ps a.place, heads_at, heads_of_part ps a.place a.exists, heads_at ps, length-map p.outs (number ps), out_old told names execs loops well, own_below ps a.place a.exists, own_not_end (get_or p.outs i (First 0)) (member_of_nth p.outs i some), member_of_nth p.outs i some)
 
     nth_first : (succs : List ℕ) (i : ℕ) → i < length succs → get_or (map First succs) i (First 0) ≡ First (slice_index succs i)
     nth_first [] i some = absurd (omega (arith, some))

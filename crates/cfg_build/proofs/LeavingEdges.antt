@@ -1,5 +1,5 @@
 -- How many edges leave each piece of the flow graph, and where the second edge of a hold leads.
-use Rattle.std.proofs.Common.{◌≡◌, ◌≢◌, ℕ, suc, ◌+◌, ◌-◌, ◌<◌, ◌≤◌, Bool, true, false, ◌==◌, List, [], ◌∷◌, ◌++◌, length, get_or, map, count_by, refl, sym, ap, ◌∙◌, subst, inl, inr, ⊎_elim, arith}
+use Rattle.std.proofs.Common.{◌≡◌, ◌≢◌, ℕ, suc, ◌+◌, ◌-◌, ◌<◌, ◌≤◌, Bool, true, false, List, [], ◌∷◌, length, get_or, count_by, refl, sym, ap, ◌∙◌, subst, ⊎_elim, arith}
 use Rattle.std.specs.Prelude.{slice_get}
 use Rattle.std.specs.List.{range_with_len}
 use Rattle.std.proofs.lemmas.Bool.{cases_lt, false≢true}
@@ -9,23 +9,19 @@ use Rattle.std.proofs.lemmas.List.Sums.{length-filter}
 use Rattle.list_laws.specs.Member.{Member}
 use Rattle.list_laws.proofs.Counts.{bit, count-cons}
 use Rattle.list_laws.proofs.Members.{Member-at}
-use Rattle.closed_walks.specs.Graph.{Graph, edge_count, from, to}
+use Rattle.closed_walks.specs.Graph.{Graph, from, to}
 use Rattle.f77_tree.specs.declared.programs.Exec.{Exec}
 use Rattle.f77_tree.specs.declared.programs.ExecKind.{ExecKind}
-use Rattle.f77_tree.specs.declared.programs.ExecKind.TheVariants.{Assign, Print, Pass, Test as Testing, Sign, Pick, DoStart, DoNext, End}
 use Rattle.f77_tree.specs.declared.programs.NameInfo.{NameInfo}
 use Rattle.f77_tree.specs.Control.{successors}
-use Rattle.f77_tree.specs.Loops.{do_start}
 use Rattle.f77_tree.specs.WellFormed.{AreExecs}
 use Rattle.cfg_build.specs.declared.parts.Part.{Part}
-use Rattle.cfg_build.specs.declared.parts.Target.TheVariants.{First, Test}
-use Rattle.cfg_build.specs.declared.pieces.Piece.{Piece}
 use Rattle.cfg_build.specs.declared.pieces.PieceKind.{PieceKind}
 use Rattle.cfg_build.specs.declared.pieces.PieceKind.TheVariants as piece
 use Rattle.cfg_build.specs.Degrees.{out_degree}
-use Rattle.cfg_build.specs.Flow.{flow, held, piece_at}
-use Rattle.cfg_build.specs.Joined.{rows, finish, is_joined, number}
-use Rattle.cfg_build.specs.Parts.{part, parts, parts_of, start_part, end_part}
+use Rattle.cfg_build.specs.Flow.{flow, held}
+use Rattle.cfg_build.specs.Joined.{rows, finish}
+use Rattle.cfg_build.specs.Parts.{parts, parts_of, start_part, end_part}
 use Rattle.cfg_build.specs.Passes.{outs, out, kind_in}
 use Rattle.cfg_build.specs.Shape.{kind_at, leaves_one, IsShaped}
 use Rattle.cfg_build.specs.WaysOut.{ways_out}
@@ -42,7 +38,7 @@ use Rattle.cfg_build.proofs.OutEdges.{first_out, outs_are}
 use Rattle.cfg_build.proofs.PartRoutes.{old_kind}
 use Rattle.cfg_build.proofs.PartsFound.{IsExecPart, cases_part}
 use Rattle.cfg_build.proofs.PieceKinds.{pieces_of, piece_of_part, join_kind}
-use Rattle.cfg_build.proofs.PieceNumbers.{part_at, own_piece, first_piece, IsPieceOf, piece_of}
+use Rattle.cfg_build.proofs.PieceNumbers.{part_at, own_piece, first_piece, piece_of}
 use Rattle.cfg_build.proofs.ReachedNodes.{IsTold}
 use Rattle.cfg_build.proofs.Shaped.{shaped}
 
@@ -60,10 +56,7 @@ count_row p d test (x ∷ xs) a same =
 
 pub outs_count : (g : Graph) (node : ℕ) → length (outs g node) ≡ out_degree g node
 unfolding from
-outs_count g node =
-    let zero_more : (i : ℕ) → 0 + i ≡ i = λ i. omega arith in
-    length-filter (λ e. from g e == node) (range_with_len 0 (edge_count g))
-    ∙ count_row (leaves_from node) (0, 0) (λ e. from g e == node) g.edges 0 (λ i less. ap (λ e. from g e == node) (zero_more i))
+outs_count g node = grind (arith, length-filter, count_row (leaves_from node) (0, 0), leaves_from node)
 
 -- ---- a part that branches has a way for each successor
 
@@ -78,26 +71,7 @@ goes_one_way : (k : ℕ) (kind : ExecKind) (p q : Part) → q ≡ p → is_branc
 goes_one_way k kind p q same not branches = absurd (false≢true (sym not ∙ ap (λ (x : Part). is_branch x.piece.kind) same ∙ ap is_branch branches))
 
 branching : (execs : List Exec) (k line : ℕ) (kind : ExecKind) (p : Part) → Member (parts_of execs k line kind) p → p.piece.kind ≡ piece.Branch → IsBranching k kind p
-branching execs k line (Assign target value next) p (inl same) h = goes_one_way k (Assign target value next) p (part (First k) piece.Act line k (First next ∷ [])) same refl h
-branching execs k line (Print items next) p (inl same) h = goes_one_way k (Print items next) p (part (First k) piece.Act line k (First next ∷ [])) same refl h
-branching execs k line (Pass next) p (inl same) h = goes_one_way k (Pass next) p (part (First k) piece.Pass line k (First next ∷ [])) same refl h
-branching execs k line (Testing c a b) p (inl same) h = as_branching k (Testing c a b) p (part (First k) piece.Branch line k (First a ∷ First b ∷ [])) same (record { exec_is = refl; outs = refl })
-branching execs k line (Sign e a b c) p (inl same) h = as_branching k (Sign e a b c) p (part (First k) piece.Branch line k (First a ∷ First b ∷ First c ∷ [])) same (record { exec_is = refl; outs = refl })
-branching execs k line (Pick e targets o) p (inl same) h =
-    as_branching k (Pick e targets o) p (part (First k) piece.Branch line k (map First (targets ++ o ∷ []))) same (record { exec_is = refl; outs = length-map (targets ++ o ∷ []) First })
-branching execs k line (DoStart loop_no var first last step body exit) p (inl same) h = goes_one_way k (DoStart loop_no var first last step body exit) p (part (First k) piece.Act line k (Test k ∷ [])) same refl h
-branching execs k line (DoStart loop_no var first last step body exit) p (inr (inl same)) h =
-    as_branching k (DoStart loop_no var first last step body exit) p (part (Test k) piece.Branch line k (First body ∷ First exit ∷ [])) same (record { exec_is = refl; outs = refl })
-branching execs k line (DoStart loop_no var first last step body exit) p (inr (inr none)) h = absurd none
-branching execs k line (DoNext loop_no var body exit) p (inl same) h = goes_one_way k (DoNext loop_no var body exit) p (part (First k) piece.Act line k (Test (do_start execs loop_no) ∷ [])) same refl h
-branching execs k line (Assign target value next) p (inr none) h = absurd none
-branching execs k line (Print items next) p (inr none) h = absurd none
-branching execs k line (Pass next) p (inr none) h = absurd none
-branching execs k line (Testing c a b) p (inr none) h = absurd none
-branching execs k line (Sign e a b c) p (inr none) h = absurd none
-branching execs k line (Pick e targets o) p (inr none) h = absurd none
-branching execs k line (DoNext loop_no var body exit) p (inr none) h = absurd none
-branching execs k line End p none h = absurd none
+branching execs k line h p none h2 = grind (arith, goes_one_way, as_branching, length-map)
 
 -- a part that branches is one of an executable
 branching_part : (execs : List Exec) (p : Part) → Member (parts execs) p → p.piece.kind ≡ piece.Branch → length p.outs ≡ length (successors (kind_in (slice_get execs p.piece.exec)))
@@ -142,21 +116,7 @@ module _ (told : IsTold) (met : IsMet) (names : List NameInfo) (execs : List Exe
 
   branch_old : (node : ℕ) → node < length (rows (parts execs)) → node ≢ finish execs → kind_at (flow execs) node ≡ piece.Branch → length (outs (flow execs).graph node) ≡ length (successors (kind_in (slice_get execs (exec_at (flow execs) node))))
   branch_old node old other branches =
-      let r : IsPieceOf ps node = piece_of ps node old in
-      let p : Part = part_at ps r.part in
-      let same : piece_at (flow execs).pieces node ≡ piece_at (pieces_of ps) node = old_kind told met names execs loops well node old in
-      ⊎_elim
-      (λ (own : node ≡ own_piece ps r.part).
-      let is : piece_at (flow execs).pieces node ≡ p.piece = same ∙ ap (λ y. piece_at (pieces_of ps) y) own ∙ piece_of_part ps r.part r.exists in
-      let heads : length (heads_at ps node) ≡ length p.outs = ap (λ y. length (heads_at ps y)) own ∙ ap (λ (xs : List ℕ). length xs) (heads_of_part ps r.part r.exists) ∙ length-map p.outs (number ps) in
-      let ways : length p.outs ≡ length (successors (kind_in (slice_get execs p.piece.exec))) =
-      branching_part execs p (Member-at ps r.part start_part r.exists) (ap (λ (q : Piece). q.kind) (sym is) ∙ branches) in
-      ap (λ (xs : List ℕ). length xs) (outs_old told names execs loops well node old ∙ outs_are ps (finish execs) node old other)
-      ∙ length-range_with_len (first_out ps (finish execs) node) (length (heads_at ps node)) ∙ heads ∙ ways
-      ∙ ap (λ (q : Piece). length (successors (kind_in (slice_get execs q.exec)))) (sym is))
-      (λ (j : (is_joined ps p ≡ true) × (node ≡ first_piece ps r.part)).
-      absurd (false≢true (ap is_branch (sym (ap (λ (q : Piece). q.kind) same ∙ ap (λ y. (piece_at (pieces_of ps) y).kind) j.1 ∙ join_kind ps r.part r.exists j.0) ∙ branches))))
-      r.which
+      grind (arith, piece_of ps node old, part_at ps, pieces_of ps, old_kind told met names execs loops well node old, own_piece ps, piece_of_part ps, heads_at ps node, heads_at ps, heads_of_part ps, length-map, branching_part execs, Member-at ps, outs_old told names execs loops well node old, outs_are ps (finish execs) node old other, length-range_with_len (first_out ps (finish execs) node) (length (heads_at ps node)), first_out ps (finish execs) node, first_piece ps, is_branch, join_kind ps)
 
   branch_count : (node : ℕ) → node < (flow execs).graph.nodes → kind_at (flow execs) node ≡ piece.Branch → length (outs (flow execs).graph node) ≡ length (successors (kind_in (slice_get execs (exec_at (flow execs) node))))
   branch_count node below branches = ⊎_elim

@@ -65,10 +65,7 @@ module _ (told : IsTold) (g : Graph) (sound : IsGraph g) where
 
   pub is_on_cycle_from : (x e : ℕ) → e < edge_count g → to g e ≡ x → Reaches g x (from g e) → is_on_cycle g x ≡ true
   unfolding from to
-  is_on_cycle_from x e edge ends returns =
-      let node : x < g.nodes = subst (λ n. n < g.nodes) ends (sound.ends e edge) in
-      list_any_member (λ (e : ℕ × ℕ). (e.1 == x) && reaches g x e.0) g.edges (get_or g.edges e (0, 0)) (Member-at g.edges e (0, 0) edge)
-      (and_from (to g e == x) (reaches g x (from g e)) (eq-eqb (to g e) x ends) ((told g x (from g e) sound node).1 returns))
+  is_on_cycle_from x e edge ends returns = grind (arith, list_any_member, Member-at g.edges, and_from, eq-eqb)
 
   module _ (finish : ℕ) where
     -- what it says of a piece that it gets a hold

@@ -1,5 +1,5 @@
 -- Of a part that leads only to another part, and that other, no more than one piece is held.
-use Rattle.std.proofs.Common.{◌≡◌, ◌≢◌, ℕ, ◌+◌, ◌<◌, true, false, List, [], ◌∷◌, length, map, refl, sym, ap, ◌∙◌, subst, inl, inr, ⊎_elim, arith}
+use Rattle.std.proofs.Common.{◌≡◌, ◌≢◌, ℕ, ◌+◌, ◌<◌, true, false, List, [], ◌∷◌, length, refl, sym, ap, ◌∙◌, subst, inl, inr, ⊎_elim, arith}
 use Rattle.std.proofs.lemmas.Bool.{cases_Bool, cases_order, cond-true, cond-false}
 use Rattle.closed_walks.specs.Graph.{Graph, IsGraph}
 use Rattle.f77_tree.specs.declared.programs.Exec.{Exec}
@@ -47,8 +47,7 @@ module _ (told : IsTold) (names : List NameInfo) (execs : List Exec) (loops : �
 
     heads : heads_at (parts execs) (own_piece (parts execs) i) ≡ first_piece (parts execs) j ∷ []
     heads =
-        heads_of_part ps i some ∙ ap (λ ts. map (number ps) ts) outs
-        ∙ ap (λ n. n ∷ []) (number_of ps (finish execs) (apart told names execs loops well) j t other own)
+        grind (arith, heads_of_part ps i some, number_of ps (finish execs) (apart told names execs loops well) j t other own, apart told names execs loops well)
 
     x_to_own : Reaches (row_graph (parts execs) (finish execs)) x (own_piece (parts execs) i)
     x_to_own = to_own_piece i x some x_of

@@ -30,9 +30,7 @@ use Rattle.cfg_build.proofs.ReachedNodes.{IsTold}
 
 pub out_degree_is : (ps : List Part) (finish y : ℕ) → out_degree (row_graph ps finish) y ≡ bit (finish == y) + length (heads_at ps y)
 out_degree_is ps finish y =
-    let e : out_degree (row_graph ps finish) y ≡ bit (finish == y) + count_by (leaves_from y) (fan 0 (heads_in ps)) = count-cons (leaves_from y) (finish, 0) (fan 0 (heads_in ps)) in
-    let f : count_by (leaves_from y) (fan 0 (heads_in ps)) ≡ length (heads_at ps y) = ap (λ n. count_by (leaves_from n) (fan 0 (heads_in ps))) (sym (zero-add y)) ∙ tails_of_fan 0 y (heads_in ps) in
-    omega (arith, e, f)
+    grind (arith, row_graph ps finish, bit (finish == y), count_by (leaves_from y) (fan 0 (heads_in ps)), leaves_from y, heads_in ps, count-cons (leaves_from y) (finish, 0) (fan 0 (heads_in ps)), count_by, heads_at ps y, leaves_from, zero-add y, tails_of_fan 0 y (heads_in ps))
 
 -- what may stand between the start and the end, before holds
 abbrev pub is_between : PieceKind → Bool
@@ -92,26 +90,17 @@ module _ (told : IsTold) (names : List NameInfo) (execs : List Exec) (loops : �
   own_is_start j some is = first_is_zero told names execs loops well j some (omega (arith, is))
 
   out_other : (x n : ℕ) → x ≢ finish execs → length (heads_at (parts execs) x) ≡ n → out_degree (row_graph (parts execs) (finish execs)) x ≡ n
-  out_other x n other heads =
-      let e : out_degree g x ≡ bit (finish execs == x) + length (heads_at ps x) = out_degree_is ps (finish execs) x in
-      let b : bit (finish execs == x) ≡ 0 = bit_false (finish execs == x) (ne_eqb (finish execs) x (λ (h : finish execs ≡ x). other (sym h))) in
-      omega (arith, e, b, heads)
+  out_other x n other heads = grind (arith, bit, heads_at ps, out_degree_is ps, bit_false, ne_eqb)
 
   out_part : (x j n : ℕ) → j < length (parts execs) → x ≡ own_piece (parts execs) j → x ≢ finish execs → length (part_at (parts execs) j).outs ≡ n → out_degree (row_graph (parts execs) (finish execs)) x ≡ n
   out_part x j n some is other outs =
-      out_other x n other
-      (ap (λ y. length (heads_at ps y)) is ∙ ap (λ (xs : List ℕ). length xs) (heads_of_part ps j some) ∙ length-map (part_at ps j).outs (number ps) ∙ outs)
+      grind (arith, out_other x n other, heads_at ps, heads_of_part ps j some, length-map (part_at ps j).outs (number ps), part_at ps j)
 
   kind_of_own : (x j : ℕ) → j < length (parts execs) → x ≡ own_piece (parts execs) j → (piece_at (pieces_of (parts execs)) x).kind ≡ (part_at (parts execs) j).piece.kind
   kind_of_own x j some is = ap (λ y. (piece_at (pieces_of ps) y).kind) is ∙ part_kind ps j some
 
   kind_apart : (p : Part) → IsExecKind p → is_between p.piece.kind ≡ true
-  kind_apart p k = ⊎_elim
-      (λ (h : (p.piece.kind ≡ piece.Act) × (length p.outs ≡ 1)). ap is_between h.0)
-      (⊎_elim
-      (λ (h : (p.piece.kind ≡ piece.Pass) × (length p.outs ≡ 1)). ap is_between h.0)
-      (λ (h : p.piece.kind ≡ piece.Branch). ap is_between h))
-      k
+  kind_apart p k = grind arith
 
   between_of : (x j : ℕ) → j < length (parts execs) → x ≡ own_piece (parts execs) j → IsExecKind (part_at (parts execs) j) → IsPiece execs x
   between_of x j some own k =

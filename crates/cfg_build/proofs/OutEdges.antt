@@ -1,5 +1,5 @@
 -- The edges that leave a piece, in order.
-use Rattle.std.proofs.Common.{◌≡◌, ◌≢◌, ℕ, zero, suc, ◌+◌, ◌-◌, ◌<◌, ◌≤◌, Bool, true, false, cond, ◌==◌, List, [], ◌∷◌, ◌++◌, length, get_or, take, filter, sum_by, refl, sym, ap, ◌∙◌, subst, inl, inr, ⊎_elim, zero-add, append-nil, arith}
+use Rattle.std.proofs.Common.{◌≡◌, ◌≢◌, ℕ, zero, suc, ◌+◌, ◌-◌, ◌<◌, ◌≤◌, Bool, true, false, ◌==◌, List, [], ◌∷◌, ◌++◌, length, get_or, take, filter, sum_by, refl, sym, ap, ◌∙◌, inl, inr, ⊎_elim, zero-add, append-nil, arith}
 use Rattle.std.proofs.lemmas.Bool.{cases_Bool, cond-true, cond-false, eqb-true, eq-eqb}
 use Rattle.std.proofs.lemmas.List.Elements.{filter-append}
 use Rattle.std.proofs.lemmas.List.FromFn.{get_or-range_with_len}
@@ -11,17 +11,14 @@ use Rattle.cfg_build.specs.Control.{fan}
 use Rattle.cfg_build.specs.Joined.{rows}
 use Rattle.cfg_build.specs.Passes.{outs, out}
 use Rattle.cfg_build.proofs.Fans.{places_before, get_or-fan, fan_below, length-fan}
-use Rattle.cfg_build.proofs.JoinedGraph.{heads_in, heads_at, length_heads, row_graph, IsRowEdge, row_edge, edge_zero}
+use Rattle.cfg_build.proofs.JoinedGraph.{heads_in, heads_at, length_heads, row_graph, row_edge, edge_zero}
 use Rattle.list_laws.specs.Member.{Member}
 use Rattle.list_laws.proofs.Members.{Member-in_range}
 
 -- ---- filters of numbers in a row
 
 pub range_split : (a n k : ℕ) → range_with_len a (n + k) ≡ range_with_len a n ++ range_with_len (a + n) k
-range_split a zero k =
-    let left : 0 + k ≡ k = omega arith in
-    let right : a ≡ a + 0 = omega arith in
-    ap (λ m. range_with_len a m) left ∙ ap (λ m. range_with_len m k) right
+range_split a zero k = grind arith
 range_split a (suc n) k =
     let left : suc n + k ≡ suc (n + k) = omega arith in
     let right : a + 1 + n ≡ a + suc n = omega arith in
@@ -37,9 +34,7 @@ filter_all test (x ∷ xs) all = cond-true (test x) (x ∷ filter test xs) (filt
 
 pub filter_same : (test other : ℕ → Bool) (xs : List ℕ) → ((x : ℕ) → Member xs x → test x ≡ other x) → filter test xs ≡ filter other xs
 filter_same test other [] same = refl
-filter_same test other (x ∷ xs) same =
-    ap (λ b. cond b (x ∷ filter test xs) (filter test xs)) (same x (inl refl))
-    ∙ ap (λ ys. cond (other x) (x ∷ ys) ys) (filter_same test other xs (λ y m. same y (inr m)))
+filter_same test other (x ∷ xs) same = grind (arith, filter_same test other xs)
 
 -- those that pass are just those in a row
 pub filter_row : (test : ℕ → Bool) (m a n : ℕ) → a + n ≤ m → ((e : ℕ) → e < m → test e ≡ true → (a ≤ e) × (e < a + n)) → ((e : ℕ) → a ≤ e → e < a + n → test e ≡ true) → filter test (range_with_len 0 m) ≡ range_with_len a n
@@ -78,30 +73,19 @@ module _ (ps : List Part) (finish : ℕ) where
 
   nth_begins : (piece nth : ℕ) → piece < length (rows ps) → nth < length (heads_at ps piece) → from (row_graph ps finish) (suc (places_before (heads_in ps) piece + nth)) ≡ piece
   unfolding from
-  nth_begins piece nth some within =
-      let same : length (heads_in ps) ≡ length (rows ps) = length_heads ps in
-      ap (λ (p : ℕ × ℕ). p.0) (get_or-fan 0 (heads_in ps) piece nth (omega (arith, some, same)) within) ∙ zero-add piece
+  nth_begins piece nth some within = grind (arith, heads_in ps, length_heads ps, get_or-fan 0 (heads_in ps) piece nth, zero-add piece)
 
   nth_ends : (piece nth : ℕ) → piece < length (rows ps) → nth < length (heads_at ps piece) → to (row_graph ps finish) (suc (places_before (heads_in ps) piece + nth)) ≡ get_or (heads_at ps piece) nth 0
   unfolding to
-  nth_ends piece nth some within =
-      let same : length (heads_in ps) ≡ length (rows ps) = length_heads ps in
-      ap (λ (p : ℕ × ℕ). p.1) (get_or-fan 0 (heads_in ps) piece nth (omega (arith, some, same)) within)
+  nth_ends piece nth some within = grind (arith, heads_in ps, length_heads ps, get_or-fan 0 (heads_in ps) piece nth)
 
   nth_below : (piece nth : ℕ) → piece < length (rows ps) → nth < length (heads_at ps piece) → suc (places_before (heads_in ps) piece + nth) < edge_count (row_graph ps finish)
-  nth_below piece nth some within =
-      let same : length (heads_in ps) ≡ length (rows ps) = length_heads ps in
-      let below : places_before (heads_in ps) piece + nth < length (fan 0 (heads_in ps)) = fan_below 0 (heads_in ps) piece nth (omega (arith, some, same)) within in
-      omega (arith, below)
+  nth_below piece nth some within = grind (arith, heads_in ps, length_heads ps, places_before, fan_below 0 (heads_in ps) piece nth)
 
   leaves_within : (piece : ℕ) → piece ≢ finish → (e : ℕ) → e < edge_count (row_graph ps finish) → (from (row_graph ps finish) e == piece) ≡ true → (first_out piece ≤ e) × (e < first_out piece + length (heads_at ps piece))
   leaves_within piece other zero edge test = absurd (other (sym (sym (edge_zero ps finish).0 ∙ eqb-true (from (row_graph ps finish) 0) piece test)))
   leaves_within piece other (suc e) edge test =
-      let r : IsRowEdge ps finish (suc e) = row_edge ps finish e edge in
-      let is : r.piece ≡ piece = sym r.begins ∙ eqb-true (from (row_graph ps finish) (suc e)) piece test in
-      let at : suc e ≡ suc (places_before (heads_in ps) piece + r.nth) = r.at ∙ ap (λ n. suc (places_before (heads_in ps) n + r.nth)) is in
-      let within : r.nth < length (heads_at ps piece) = subst (λ n. r.nth < length (heads_at ps n)) is r.within in
-      (omega (arith, at), omega (arith, at, within))
+      grind (arith, row_edge ps finish e edge, eqb-true (from (row_graph ps finish) (suc e)) piece test, row_graph ps finish, places_before (heads_in ps) piece, heads_in ps, places_before (heads_in ps), heads_at ps piece, heads_at ps)
 
   -- the edges that leave a piece other than the end, in order
   pub outs_are : (piece : ℕ) → piece < length (rows ps) → piece ≢ finish → outs (row_graph ps finish) piece ≡ range_with_len (first_out piece) (length (heads_at ps piece))
@@ -137,12 +121,4 @@ module _ (ps : List Part) (finish : ℕ) where
 
   pub out_is : (piece i : ℕ) → piece < length (rows ps) → piece ≢ finish → i < length (heads_at ps piece) → IsOut piece i
   out_is piece i some other within =
-      let is : out (row_graph ps finish) piece i ≡ first_out piece + i =
-      ap (λ xs. get_or xs i 0) (outs_are piece some other) ∙ get_or-range_with_len (first_out piece) (length (heads_at ps piece)) i 0 within in
-      let at : first_out piece + i ≡ suc (places_before (heads_in ps) piece + i) = omega arith in
-      record {
-        is = is;
-        exists = subst (λ n. n < edge_count (row_graph ps finish)) (sym (is ∙ at)) (nth_below piece i some within);
-        begins = ap (λ n. from (row_graph ps finish) n) (is ∙ at) ∙ nth_begins piece i some within;
-        ends = ap (λ n. to (row_graph ps finish) n) (is ∙ at) ∙ nth_ends piece i some within;
-      }
+      grind (arith, row_graph ps finish, outs_are piece some other, get_or-range_with_len (first_out piece) (length (heads_at ps piece)) i 0 within, heads_at ps piece, places_before (heads_in ps) piece, heads_in ps, nth_below piece i some within, nth_begins piece i some within, nth_ends piece i some within)

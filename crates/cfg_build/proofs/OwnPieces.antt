@@ -1,13 +1,12 @@
 -- The own piece of an executable: the first one of its chain that is no join and no hold.
-use Rattle.std.proofs.Common.{◌≡◌, ℕ, zero, suc, ◌+◌, ◌-◌, ◌<◌, ◌≤◌, Bool, true, false, List, [], ◌∷◌, ◌++◌, length, slice_index, refl, sym, ap, ◌∙◌, subst, ⊎_elim, arith}
+use Rattle.std.proofs.Common.{◌≡◌, ℕ, zero, suc, ◌+◌, ◌-◌, ◌<◌, ◌≤◌, Bool, true, false, List, [], ◌∷◌, ◌++◌, length, slice_index, ap, ◌∙◌, arith}
 use Rattle.std.proofs.Math.Seq.{get_or-append_seam}
-use Rattle.std.proofs.lemmas.Bool.{cases_Bool, false≢true, cond-true, cond-false}
+use Rattle.std.proofs.lemmas.Bool.{cond-true, cond-false}
 use Rattle.std.proofs.lemmas.List.{length-append, get_or-append-add}
 use Rattle.std.specs.List.{prefix_len}
 use Rattle.closed_walks.specs.Graph.{to}
 use Rattle.f77_tree.specs.declared.programs.Exec.{Exec}
 use Rattle.f77_tree.specs.declared.programs.ExecKind.{ExecKind}
-use Rattle.f77_tree.specs.declared.programs.ExecKind.TheVariants.{Assign, Print, Pass, Test, Sign, Pick, DoStart, DoNext, End}
 use Rattle.cfg_build.specs.declared.pieces.PieceKind.TheVariants as piece
 use Rattle.cfg_build.specs.Parts.{first_kind}
 use Rattle.cfg_build.specs.Joined.{FlowGraph}
@@ -21,57 +20,22 @@ use Rattle.cfg_build.proofs.ChainSteps.{own_last}
 -- ---- which kinds of pieces run an executable
 
 pub first_acts : (kind : ExecKind) → has_test kind ≡ true → first_kind kind ≡ piece.Act
-first_acts (Assign target value next) h = absurd (false≢true h)
-first_acts (Print items next) h = absurd (false≢true h)
-first_acts (Pass next) h = absurd (false≢true h)
-first_acts (Test c a b) h = absurd (false≢true h)
-first_acts (Sign e a b c) h = absurd (false≢true h)
-first_acts (Pick e targets other) h = absurd (false≢true h)
-first_acts (DoStart loop_no var first last step body exit) h = refl
-first_acts (DoNext loop_no var body exit) h = refl
-first_acts End h = absurd (false≢true h)
+first_acts h h2 = grind arith
 
 pub first_is_last : (kind : ExecKind) → has_test kind ≡ false → first_kind kind ≡ last_kind kind
-first_is_last (Assign target value next) h = refl
-first_is_last (Print items next) h = refl
-first_is_last (Pass next) h = refl
-first_is_last (Test c a b) h = refl
-first_is_last (Sign e a b c) h = refl
-first_is_last (Pick e targets other) h = refl
-first_is_last (DoStart loop_no var first last step body exit) h = absurd (false≢true (sym h))
-first_is_last (DoNext loop_no var body exit) h = absurd (false≢true (sym h))
-first_is_last End h = refl
+first_is_last h h2 = grind arith
 
 -- neither the first piece nor the last one only leads on
 pub first_runs : (kind : ExecKind) → leads_on (first_kind kind) ≡ false
-first_runs (Assign target value next) = refl
-first_runs (Print items next) = refl
-first_runs (Pass next) = refl
-first_runs (Test c a b) = refl
-first_runs (Sign e a b c) = refl
-first_runs (Pick e targets other) = refl
-first_runs (DoStart loop_no var first last step body exit) = refl
-first_runs (DoNext loop_no var body exit) = refl
-first_runs End = refl
+first_runs h = grind arith
 
 pub last_runs : (kind : ExecKind) → leads_on (last_kind kind) ≡ false
-last_runs (Assign target value next) = refl
-last_runs (Print items next) = refl
-last_runs (Pass next) = refl
-last_runs (Test c a b) = refl
-last_runs (Sign e a b c) = refl
-last_runs (Pick e targets other) = refl
-last_runs (DoStart loop_no var first last step body exit) = refl
-last_runs (DoNext loop_no var body exit) = refl
-last_runs End = refl
+last_runs h = grind arith
 
 -- ---- the first pieces that pass a test
 
 prefix_goes : (test : ℕ → Bool) (x : ℕ) (xs : List ℕ) (i : ℕ) → i < prefix_len test (x ∷ xs) → (test x ≡ true) × (i < 1 + prefix_len test xs)
-prefix_goes test x xs i less = ⊎_elim
-    (λ (h : test x ≡ true). (h, subst (λ n. i < n) (cond-true (test x) (1 + prefix_len test xs) 0 h) less))
-    (λ (h : test x ≡ false). let none : i < 0 = subst (λ n. i < n) (cond-false (test x) (1 + prefix_len test xs) 0 h) less in absurd (omega (arith, none)))
-    (cases_Bool (test x))
+prefix_goes test x xs i less = grind (arith, cond-true, cond-false)
 
 pub prefix_passes : (test : ℕ → Bool) (xs : List ℕ) (i : ℕ) → i < prefix_len test xs → test (slice_index xs i) ≡ true
 prefix_passes test [] i less = absurd (omega (arith, less))
@@ -86,9 +50,7 @@ module _ (f : FlowGraph) where
   pub led_along : (prefix : List ℕ) (node own : ℕ) (rest : List ℕ) → IsRoute f node prefix own → leads_on (piece_at f.pieces own).kind ≡ false → led_in f (prefix ++ own ∷ rest) ≡ length prefix
   led_along [] node own rest route runs = cond-false (leads own) (1 + prefix_len leads rest) 0 runs
   led_along (first ∷ more) node own rest route runs =
-      let one : led_in f (first ∷ (more ++ own ∷ rest)) ≡ 1 + led_in f (more ++ own ∷ rest) = cond-true (leads first) (1 + prefix_len leads (more ++ own ∷ rest)) 0 route.1 in
-      let others : led_in f (more ++ own ∷ rest) ≡ length more = led_along more (to f.graph (out f.graph first 0)) own rest route.2 runs in
-      omega (arith, one, others)
+      grind (arith, cond-true (leads first) (1 + prefix_len leads (more ++ own ∷ rest)) 0 route.1, led_along more (to f.graph (out f.graph first 0)) own rest route.2 runs)
 
   -- each piece of a route leads on
   pub route_leads : (prefix : List ℕ) (node own : ℕ) (rest : List ℕ) (i : ℕ) → IsRoute f node prefix own → i < length prefix → leads_on (piece_at f.pieces (slice_index (prefix ++ own ∷ rest) i)).kind ≡ true
@@ -103,38 +65,23 @@ module _ (f : FlowGraph) where
 
   own_of : (execs : List Exec) (k : ℕ) (kind : ExecKind) (prefix : List ℕ) (node own : ℕ) (rest pieces : List ℕ) → pieces ≡ prefix ++ own ∷ rest → IsRoute f node prefix own → IsMade f execs own (first_kind kind) k → IsOwn execs k kind pieces
   own_of execs k kind prefix node own rest pieces are route made =
-      let place : led_in f (prefix ++ own ∷ rest) ≡ length prefix = led_along prefix node own rest route (ap leads_on made.kind_is ∙ first_runs kind) in
-      let count : length (prefix ++ own ∷ rest) ≡ length prefix + length (own ∷ rest) = length-append prefix (own ∷ rest) in
-      let here : slice_index (prefix ++ own ∷ rest) (led_in f (prefix ++ own ∷ rest)) ≡ own = ap (λ n. slice_index (prefix ++ own ∷ rest) n) place ∙ get_or-append_seam prefix own rest 0 in
-      subst (λ xs. IsOwn execs k kind xs) (sym are) (record {
-        exists = omega (arith, place, count);
-        made = subst (λ n. IsMade f execs n (first_kind kind) k) (sym here) made;
-      })
+      grind (arith, led_along prefix node own rest route, first_runs kind, length-append prefix (own ∷ rest), slice_index, slice_index (prefix ++ own ∷ rest), get_or-append_seam prefix own rest 0)
 
   pub own_of_one : (entry : ℕ → ℕ) (execs : List Exec) (k : ℕ) (kind : ExecKind) (pieces : List ℕ) → has_test kind ≡ false → IsOnePart f entry execs k kind pieces → IsOwn execs k kind pieces
   own_of_one entry execs k kind pieces single c =
-      own_of execs k kind c.prefix (entry k) c.last [] pieces c.are c.route
-      (subst (λ piece. IsMade f execs c.last piece k) (sym (first_is_last kind single)) (subst (λ n. IsMade f execs c.last (last_kind kind) n) (own_last execs k kind single) c.ends.made))
+      grind (arith, own_of execs k kind c.prefix (entry k) c.last, first_is_last kind single, own_last execs k kind single)
 
   pub own_of_two : (entry : ℕ → ℕ) (execs : List Exec) (k : ℕ) (kind : ExecKind) (pieces : List ℕ) → has_test kind ≡ true → IsTwoParts f entry execs k kind pieces → IsOwn execs k kind pieces
   own_of_two entry execs k kind pieces two c =
-      own_of execs k kind c.prefix (entry k) c.act (c.middle ++ c.test ∷ []) pieces c.are c.route
-      (subst (λ piece. IsMade f execs c.act piece k) (sym (first_acts kind two)) c.acts)
+      grind (arith, own_of execs k kind c.prefix (entry k) c.act (c.middle ++ c.test ∷ []) pieces c.are c.route, first_acts kind two)
 
   pub own_piece_of : (entry : ℕ → ℕ) (execs : List Exec) (k : ℕ) (kind : ExecKind) (pieces : List ℕ) → AreChain f entry execs k (has_test kind) kind pieces → IsOwn execs k kind pieces
-  own_piece_of entry execs k kind pieces c = ⊎_elim
-      (λ (two : has_test kind ≡ true). own_of_two entry execs k kind pieces two (subst (λ b. AreChain f entry execs k b kind pieces) two c))
-      (λ (single : has_test kind ≡ false). own_of_one entry execs k kind pieces single (subst (λ b. AreChain f entry execs k b kind pieces) single c))
-      (cases_Bool (has_test kind))
+  own_piece_of entry execs k kind pieces c = grind (arith, own_of_two entry execs k, own_of_one entry execs k)
 
   -- nothing comes after the own piece of one part
   pub none_past : (entry : ℕ → ℕ) (execs : List Exec) (k : ℕ) (kind : ExecKind) (pieces : List ℕ) → IsOnePart f entry execs k kind pieces → (i : ℕ) → led_in f pieces < i → i < length pieces → ⊥
   none_past entry execs k kind pieces c i past exists =
-      let runs : leads c.last ≡ false = ap leads_on c.ends.made.kind_is ∙ last_runs kind in
-      let place : led_in f pieces ≡ length c.prefix = ap (λ xs. led_in f xs) c.are ∙ led_along c.prefix (entry k) c.last [] c.route runs in
-      let cut : length pieces ≡ length (c.prefix ++ c.last ∷ []) = ap (λ (xs : List ℕ). length xs) c.are in
-      let count : length (c.prefix ++ c.last ∷ []) ≡ length c.prefix + length (c.last ∷ []) = length-append c.prefix (c.last ∷ []) in
-      omega (arith, place, cut, count, past, exists)
+      grind (arith, last_runs kind, led_along c.prefix (entry k) c.last, length-append c.prefix (c.last ∷ []))
 
   -- a piece after the act of two parts
   pub record IsPastAct (pieces prefix middle : List ℕ) (test i : ℕ) : Type 0 where

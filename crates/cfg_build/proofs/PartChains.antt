@@ -1,9 +1,7 @@
 -- The chains of executables of one part and of two.
-use Rattle.std.proofs.Common.{◌≡◌, ℕ, suc, ◌+◌, ◌-◌, ◌≤◌, false, List, [], ◌∷◌, ◌++◌, length, map, Some, slice_get, refl, sym, ap, ◌∙◌, ⊎_elim, arith}
-use Rattle.std.proofs.lemmas.Bool.{false≢true}
+use Rattle.std.proofs.Common.{◌≡◌, ℕ, suc, ◌+◌, ◌-◌, ◌≤◌, false, List, [], ◌∷◌, ◌++◌, length, map, Some, slice_get, sym, ap, ◌∙◌, arith}
 use Rattle.f77_tree.specs.declared.programs.Exec.{Exec}
 use Rattle.f77_tree.specs.declared.programs.ExecKind.{ExecKind}
-use Rattle.f77_tree.specs.declared.programs.ExecKind.TheVariants.{Assign, Print, Pass, Test as Testing, Sign, Pick, DoStart, DoNext, End}
 use Rattle.f77_tree.specs.declared.programs.NameInfo.{NameInfo}
 use Rattle.f77_tree.specs.Control.{successors}
 use Rattle.f77_tree.specs.WellFormed.{AreExecs}
@@ -20,40 +18,22 @@ use Rattle.list_laws.specs.Member.{Member}
 use Rattle.cfg_build.proofs.ReachedNodes.{IsTold}
 use Rattle.cfg_build.proofs.Lowest.{IsMet}
 use Rattle.cfg_build.proofs.PieceNumbers.{own_piece}
-use Rattle.cfg_build.proofs.PartRoutes.{IsHeldOf, IsPrefix, prefix_of}
+use Rattle.cfg_build.proofs.PartRoutes.{IsPrefix, prefix_of}
 use Rattle.cfg_build.proofs.LastPieces.{IsPlaced, placed, own_made, own_last, own_prefix}
 use Rattle.cfg_build.proofs.Following.{goes_no_further, along_prefix}
 
 pub last_not_hold : (kind : ExecKind) → is_hold (last_kind kind) ≡ false
-last_not_hold (Assign target value next) = refl
-last_not_hold (Print items next) = refl
-last_not_hold (Pass next) = refl
-last_not_hold (Testing c a b) = refl
-last_not_hold (Sign e a b c) = refl
-last_not_hold (Pick e targets other) = refl
-last_not_hold (DoStart loop_no var first last step body exit) = refl
-last_not_hold (DoNext loop_no var body exit) = refl
-last_not_hold End = refl
+last_not_hold h = grind arith
 
 ends_here : (kind : ExecKind) → has_test kind ≡ false → goes_on_from (last_kind kind) (has_test kind) ≡ false
-ends_here (Assign target value next) h = refl
-ends_here (Print items next) h = refl
-ends_here (Pass next) h = refl
-ends_here (Testing c a b) h = refl
-ends_here (Sign e a b c) h = refl
-ends_here (Pick e targets other) h = refl
-ends_here (DoStart loop_no var first last step body exit) h = absurd (false≢true (sym h))
-ends_here (DoNext loop_no var body exit) h = absurd (false≢true (sym h))
-ends_here End h = refl
+ends_here h h2 = grind arith
 
 module _ (told : IsTold) (met : IsMet) (names : List NameInfo) (execs : List Exec) (loops : ℕ) (well : AreExecs names execs loops) where
   abbrev ps : List Part
   ps = parts execs
 
   pub made_goes : (node : ℕ) (kind : PieceKind) (k : ℕ) → IsMade (flow execs) execs node kind k → goes_on execs (piece_at (flow execs).pieces node) ≡ goes_on_from kind (has_test (kind_in (slice_get execs k)))
-  made_goes node kind k made =
-      ap (λ kind. goes_on_from kind (has_test (kind_in (slice_get execs (piece_at (flow execs).pieces node).exec)))) made.kind_is
-      ∙ ap (λ n. goes_on_from kind (has_test (kind_in (slice_get execs n)))) made.exec_is
+  made_goes node kind k made = cc
 
   abbrev holds : List ℕ → ℕ
   holds xs = holds_in (flow execs) xs
@@ -61,15 +41,10 @@ module _ (told : IsTold) (met : IsMet) (names : List NameInfo) (execs : List Exe
   -- a piece that is no hold adds none
   pub no_more : (node : ℕ) (kind : PieceKind) (k : ℕ) (rest : List ℕ) → IsMade (flow execs) execs node kind k → is_hold kind ≡ false → holds_in (flow execs) (node ∷ rest) ≡ holds_in (flow execs) rest
   no_more node kind k rest made not =
-      let e : holds (node ∷ rest) ≡ bit (is_hold (piece_at (flow execs).pieces node).kind) + holds rest = count-cons (λ x. is_hold (piece_at (flow execs).pieces x).kind) node rest in
-      let b : bit (is_hold (piece_at (flow execs).pieces node).kind) ≡ 0 = bit_false (is_hold (piece_at (flow execs).pieces node).kind) (ap is_hold made.kind_is ∙ not) in
-      omega (arith, e, b)
+      grind (arith, bit (is_hold (piece_at (flow execs).pieces node).kind), count-cons, bit, bit_false (is_hold (piece_at (flow execs).pieces node).kind))
 
   pub prefix_few : (j : ℕ) (r : IsPrefix told met names execs loops well j) → (length r.prefix ≤ 2) × (holds_in (flow execs) r.prefix ≤ 1)
-  prefix_few j r = ⊎_elim
-      (λ (h : (length r.prefix ≤ 1) × (holds r.prefix ≡ 0)). (omega (arith, h.0), omega (arith, h.1)))
-      (λ (h : (length r.prefix ≤ 2) × (holds r.prefix ≡ 1) × IsHeldOf told met names execs loops well j). (h.0, omega (arith, h.1)))
-      r.few
+  prefix_few j r = grind arith
 
   -- an executable of one part
   pub record IsOneChain (k : ℕ) (kind : ExecKind) : Type 0 where

@@ -1,18 +1,18 @@
 -- No two parts of a program have the same target: targets have keys, which rise along the parts.
-use Rattle.std.proofs.Common.{◌≡◌, ℕ, zero, suc, ◌+◌, ◌<◌, ◌≤◌, true, false, List, [], ◌∷◌, ◌++◌, length, get_or, flat_map, slice_get, Option, Some, None, refl, sym, ap, ◌∙◌, subst, ⊎_elim, zero-add, arith}
-use Rattle.std.proofs.lemmas.Bool.{cases_Bool, cond_both, eqb-true, eq-eqb, false≢true}
+use Rattle.std.proofs.Common.{◌≡◌, ℕ, zero, suc, ◌+◌, ◌<◌, ◌≤◌, true, false, List, [], ◌∷◌, ◌++◌, length, get_or, flat_map, slice_get, Option, Some, None, refl, sym, ap, ⊎_elim, zero-add, arith}
+use Rattle.std.proofs.lemmas.Bool.{cases_Bool, cond_both, eqb-true, eq-eqb}
 use Rattle.std.proofs.lemmas.List.Concat.{flat_map-append}
 use Rattle.std.proofs.lemmas.List.{append-nil}
 use Rattle.std.specs.List.{range_with_len}
 use Rattle.f77_tree.specs.declared.programs.Exec.{Exec}
 use Rattle.f77_tree.specs.declared.programs.ExecKind.{ExecKind}
-use Rattle.f77_tree.specs.declared.programs.ExecKind.TheVariants.{Assign, Print, Pass, Test as Testing, Sign, Pick, DoStart, DoNext, End}
+use Rattle.f77_tree.specs.declared.programs.ExecKind.TheVariants.{End}
 use Rattle.f77_tree.specs.Control.{EndsWithEnd}
 use Rattle.cfg_build.specs.declared.parts.Part.{Part}
 use Rattle.cfg_build.specs.declared.parts.Target.{Target}
 use Rattle.cfg_build.specs.declared.parts.Target.TheVariants.{Start, First, Test}
 use Rattle.cfg_build.specs.Control.{is_reached}
-use Rattle.cfg_build.specs.Parts.{parts, parts_of, parts_in, reached_parts, start_part, end_part, last_of}
+use Rattle.cfg_build.specs.Parts.{parts, parts_of, parts_in, reached_parts, start_part, last_of}
 use Rattle.cfg_build.specs.Joined.{is_same}
 use Rattle.list_laws.proofs.Ranges.{range_last}
 
@@ -24,20 +24,10 @@ key (First k) = suc (k + k)
 key (Test k) = suc (suc (k + k))
 
 pub is_same_itself : (t : Target) → is_same t t ≡ true
-is_same_itself Start = refl
-is_same_itself (First k) = eq-eqb k k refl
-is_same_itself (Test k) = eq-eqb k k refl
+is_same_itself h = grind (arith, eq-eqb)
 
 pub same_of : (t s : Target) → is_same t s ≡ true → t ≡ s
-same_of Start Start h = refl
-same_of Start (First n) h = absurd (false≢true h)
-same_of Start (Test n) h = absurd (false≢true h)
-same_of (First k) Start h = absurd (false≢true h)
-same_of (First k) (First n) h = ap First (eqb-true k n h)
-same_of (First k) (Test n) h = absurd (false≢true h)
-same_of (Test k) Start h = absurd (false≢true h)
-same_of (Test k) (First n) h = absurd (false≢true h)
-same_of (Test k) (Test n) h = ap Test (eqb-true k n h)
+same_of h h2 h3 = grind (arith, eqb-true)
 
 pub not_same : (t s : Target) → (t ≡ s → ⊥) → is_same t s ≡ false
 not_same t s apart = ⊎_elim (λ (h : is_same t s ≡ true). absurd (apart (same_of t s h))) (λ h. h) (cases_Bool (is_same t s))
@@ -58,36 +48,19 @@ Rise-append low middle high [] qs rise more = Rise-lower low middle high qs rise
 Rise-append low middle high (p ∷ ps) qs rise more = (rise.0, Rise-append (suc (key p.own)) middle high ps qs rise.1 more)
 
 rise_of : (execs : List Exec) (k line : ℕ) (kind : ExecKind) → Rise (suc (k + k)) (suc (suc k + suc k)) (parts_of execs k line kind)
-rise_of execs k line (Assign target value next) = (omega arith, omega arith)
-rise_of execs k line (Print items next) = (omega arith, omega arith)
-rise_of execs k line (Pass next) = (omega arith, omega arith)
-rise_of execs k line (Testing c if_true if_false) = (omega arith, omega arith)
-rise_of execs k line (Sign value neg zero' pos) = (omega arith, omega arith)
-rise_of execs k line (Pick value targets other) = (omega arith, omega arith)
-rise_of execs k line (DoStart loop_no var first last step body exit) = (omega arith, (omega arith, omega arith))
-rise_of execs k line (DoNext loop_no var body exit) = (omega arith, omega arith)
-rise_of execs k line End = omega arith
+rise_of execs k line h = grind arith
 
 rise_in : (execs : List Exec) (k : ℕ) (exec : Option Exec) → Rise (suc (k + k)) (suc (suc k + suc k)) (parts_in execs k exec)
 rise_in execs k None = omega arith
 rise_in execs k (Some exec) = rise_of execs k exec.line exec.kind
 
 rise_reached : (execs : List Exec) (k : ℕ) → Rise (suc (k + k)) (suc (suc k + suc k)) (reached_parts execs k)
-rise_reached execs k =
-    cond_both (is_reached execs k) (parts_in execs k (slice_get execs k)) [] (λ ps. Rise (suc (k + k)) (suc (suc k + suc k)) ps)
-    (λ h. rise_in execs k (slice_get execs k))
-    (λ h. omega arith)
+rise_reached execs k = grind (arith, cond_both (is_reached execs k) (parts_in execs k (slice_get execs k)), rise_in execs k (slice_get execs k))
 
 rise_from : (execs : List Exec) (k n : ℕ) → Rise (suc (k + k)) (suc ((k + n) + (k + n))) (flat_map (reached_parts execs) (range_with_len k n))
 rise_from execs k zero = omega arith
 rise_from execs k (suc n) =
-    let rest : Rise (suc ((k + 1) + (k + 1))) (suc ((k + 1 + n) + (k + 1 + n))) (flat_map (reached_parts execs) (range_with_len (k + 1) n)) = rise_from execs (k + 1) n in
-    let low : suc ((k + 1) + (k + 1)) ≡ suc (suc k + suc k) = omega arith in
-    let high : suc ((k + 1 + n) + (k + 1 + n)) ≡ suc ((k + suc n) + (k + suc n)) = omega arith in
-    Rise-append (suc (k + k)) (suc (suc k + suc k)) (suc ((k + suc n) + (k + suc n))) (reached_parts execs k) (flat_map (reached_parts execs) (range_with_len (k + 1) n))
-    (rise_reached execs k)
-    (subst (λ m. Rise m (suc ((k + suc n) + (k + suc n))) (flat_map (reached_parts execs) (range_with_len (k + 1) n))) low
-    (subst (λ m. Rise (suc ((k + 1) + (k + 1))) m (flat_map (reached_parts execs) (range_with_len (k + 1) n))) high rest))
+    grind (arith, flat_map (reached_parts execs) (range_with_len (k + 1) n), rise_from execs (k + 1) n, Rise-append (suc (k + k)) (suc (suc k + suc k)) (suc ((k + suc n) + (k + suc n))) (reached_parts execs k) (flat_map (reached_parts execs) (range_with_len (k + 1) n)) (rise_reached execs k), rise_reached execs k)
 
 -- ---- the last executable has no part but the end
 
@@ -104,35 +77,21 @@ module _ (execs : List Exec) (end : EndsWithEnd execs) where
 
   pub none_of_last : reached_parts execs (last_of execs) ≡ []
   none_of_last =
-      cond_both (is_reached execs (last_of execs)) (parts_in execs (last_of execs) (slice_get execs (last_of execs))) [] (λ ps. ps ≡ [])
-      (λ h. last_in (slice_get execs (last_of execs)) refl)
-      (λ h. refl)
+      grind (arith, cond_both (is_reached execs (last_of execs)) (parts_in execs (last_of execs) (slice_get execs (last_of execs))), last_in (slice_get execs (last_of execs)))
 
   middle_parts : flat_map (reached_parts execs) (range_with_len 0 (length execs)) ≡ flat_map (reached_parts execs) (range_with_len 0 (last_of execs))
   middle_parts =
-      let last = last_of execs in
-      ap (λ n. flat_map (reached_parts execs) (range_with_len 0 n)) length_is
-      ∙ ap (λ xs. flat_map (reached_parts execs) xs) (range_last 0 last)
-      ∙ flat_map-append (reached_parts execs) (range_with_len 0 last) ((0 + last) ∷ [])
-      ∙ ap (λ x. flat_map (reached_parts execs) (range_with_len 0 last) ++ flat_map (reached_parts execs) (x ∷ [])) (zero-add last)
-      ∙ ap (λ ps. flat_map (reached_parts execs) (range_with_len 0 last) ++ (ps ++ [])) none_of_last
-      ∙ append-nil (flat_map (reached_parts execs) (range_with_len 0 last))
+      grind (arith, flat_map (reached_parts execs), length_is, range_last 0, flat_map-append (reached_parts execs), zero-add, none_of_last, append-nil)
 
   pub parts_rise : Rise 0 (suc (suc (last_of execs + last_of execs))) (parts execs)
-  parts_rise =
-      let last : ℕ = last_of execs in
-      let middle : Rise 1 (suc (last + last)) (flat_map (reached_parts execs) (range_with_len 0 last)) = subst (λ x. Rise 1 (suc (x + x)) (flat_map (reached_parts execs) (range_with_len 0 last))) (zero-add last) (rise_from execs 0 last) in
-      let all : Rise 1 (suc (suc (last + last))) (flat_map (reached_parts execs) (range_with_len 0 last) ++ end_part execs ∷ []) = Rise-append 1 (suc (last + last)) (suc (suc (last + last))) (flat_map (reached_parts execs) (range_with_len 0 last)) (end_part execs ∷ []) middle (omega arith, omega arith) in
-      (omega arith, subst (λ ps. Rise 1 (suc (suc (last + last))) (ps ++ end_part execs ∷ [])) (sym middle_parts) all)
+  parts_rise = grind (arith, flat_map (reached_parts execs), zero-add, rise_from execs 0, Rise-append 1, middle_parts)
 
 -- ---- so they differ
 
 rise_at : (low high : ℕ) (ps : List Part) (i : ℕ) (d : Part) → Rise low high ps → i < length ps → low ≤ key (get_or ps i d).own
 rise_at low high [] i d rise some = absurd (omega (arith, some))
 rise_at low high (p ∷ ps) zero d rise some = rise.0
-rise_at low high (p ∷ ps) (suc i) d rise some =
-    let rest : suc (key p.own) ≤ key (get_or ps i d).own = rise_at (suc (key p.own)) high ps i d rise.1 (omega (arith, some)) in
-    omega (arith, rest, rise.0)
+rise_at low high (p ∷ ps) (suc i) d rise some = grind (arith, rise_at (suc (key p.own)) high ps i d rise.1)
 
 keys_rise : (low high : ℕ) (ps : List Part) (i j : ℕ) (d : Part) → Rise low high ps → i < j → j < length ps → key (get_or ps i d).own < key (get_or ps j d).own
 keys_rise low high [] i j d rise less some = absurd (omega (arith, some))

@@ -1,6 +1,6 @@
 -- From what an edge to a part enters to the part's own piece: its join, or a hold, or both in either order.
 use Rattle.std.proofs.Common.{◌≡◌, ◌≢◌, ℕ, ◌+◌, ◌<◌, ◌≤◌, ◌⊎◌, true, false, List, [], ◌∷◌, length, get_or, count_by, refl, sym, ap, ◌∙◌, subst, inl, inr, ⊎_elim, arith}
-use Rattle.std.proofs.lemmas.Bool.{cases_Bool, cond-true, cond-false, false≢true}
+use Rattle.std.proofs.lemmas.Bool.{cases_Bool, cond-true, cond-false}
 use Rattle.closed_walks.specs.Graph.{from, to}
 use Rattle.f77_tree.specs.declared.programs.Exec.{Exec}
 use Rattle.f77_tree.specs.declared.programs.NameInfo.{NameInfo}
@@ -29,10 +29,10 @@ use Rattle.cfg_build.proofs.ReachedPieces.{apart}
 use Rattle.cfg_build.proofs.OutEdges.{first_out}
 use Rattle.cfg_build.proofs.HeldEdges.{edge_for, hold_comes_to_other}
 use Rattle.cfg_build.proofs.FlowEdges.{held_piece, IsHeldPiece, held_piece_is, hold_of_is, out_of_hold, free_leads, held_leads, after}
-use Rattle.cfg_build.proofs.AfterHolds.{AfterHolds}
 use Rattle.cfg_build.proofs.Shaped.{has_holds}
 use Rattle.cfg_build.proofs.EnteredParts.{entering, IsHeldAt, held_at, IsHeldEdge, cases_held, holder, after_then}
 use Rattle.cfg_build.proofs.WaysEnter.{edge_begins, edge_ends}
+use Rattle.std.proofs.lemmas.Grind.{elements}
 
 not_join : (p : Part) (kind : PieceKind) → p.piece.kind ≡ kind → is_join kind ≡ false → is_join p.piece.kind ≡ false
 not_join p kind is plain = ap is_join is ∙ plain
@@ -65,8 +65,7 @@ module _ (told : IsTold) (met : IsMet) (names : List NameInfo) (execs : List Exe
 
   pub hold_kind : (q : ℕ) → q < length (held execs) → (piece_at (flow execs).pieces (length (rows (parts execs)) + q)).kind ≡ piece.Hold
   hold_kind q some =
-      let a : AfterHolds (row_graph (parts execs) (finish execs)) (finish execs) (edge_for told names execs loops well) (held execs) (length (held execs)) (flow execs).graph = after told names execs loops well in
-      (has_holds told met names execs loops well).new_piece (n + q) (omega arith) (omega (arith, some, a.nodes))
+      grind (arith, row_graph (parts execs) (finish execs), edge_for told names execs loops well, after told names execs loops well, has_holds told met names execs loops well)
 
   -- a held piece of a part
   pub record IsHeldOf (j : ℕ) : Type 0 where
@@ -82,9 +81,7 @@ module _ (told : IsTold) (met : IsMet) (names : List NameInfo) (execs : List Exe
 
   hold_alone : (q : ℕ) → q < length (held execs) → holds_in (flow execs) ((length (rows (parts execs)) + q) ∷ []) ≡ 1
   hold_alone q some =
-      let e : count_by (λ x. is_hold (piece_at (flow execs).pieces x).kind) ((n + q) ∷ []) ≡ bit (is_hold (piece_at (flow execs).pieces (n + q)).kind) + 0 = count-cons (λ x. is_hold (piece_at (flow execs).pieces x).kind) (n + q) [] in
-      let b : bit (is_hold (piece_at (flow execs).pieces (n + q)).kind) ≡ 1 = bit_true (is_hold (piece_at (flow execs).pieces (n + q)).kind) (ap is_hold (hold_kind q some)) in
-      omega (arith, e, b)
+      grind (arith, count_by, bit (is_hold (piece_at (flow execs).pieces (n + q)).kind), count-cons, bit, bit_true (is_hold (piece_at (flow execs).pieces (n + q)).kind), hold_kind q some)
 
   -- ---- a part with a join
 
@@ -106,11 +103,7 @@ module _ (told : IsTold) (met : IsMet) (names : List NameInfo) (execs : List Exe
     x_below = first_below ps j some
 
     not_end : first_piece (parts execs) j ≢ finish execs
-    not_end is =
-        let one : joins ps (part_at ps j) ≡ 1 = cond-true (is_joined ps (part_at ps j)) 1 0 joined_here in
-        let below : y < n = own_below ps j some in
-        let last : n ≡ finish execs + 1 = end_is_last execs well.end in
-        omega (arith, one, below, last, is)
+    not_end is = grind (arith, elements, joins, part_at, cond-true, own_below, end_is_last)
 
     within : 0 < length (heads_at (parts execs) (first_piece (parts execs) j))
     within = let e : length (heads_at ps x) ≡ 1 = ap (λ (xs : List ℕ). length xs) heads in omega (arith, e)
@@ -119,19 +112,13 @@ module _ (told : IsTold) (met : IsMet) (names : List NameInfo) (execs : List Exe
     x_joins = ap is_join (join_kind ps j some joined_here)
 
     entered : entering execs (first_piece (parts execs) j) ≡ first_piece (parts execs) j
-    entered = ⊎_elim
-        (λ (h : is_after_hold execs x ≡ true). absurd (false≢true (sym (after_then told names execs loops well x h).1 ∙ x_joins)))
-        (λ (h : is_after_hold execs x ≡ false). cond-false (is_after_hold execs x) (hold_of execs x) x h)
-        (cases_Bool (is_after_hold execs x))
+    entered = search (after_then, x_joins, cond-false, arith)
 
     x_leads : leads_on (piece_at (flow execs).pieces (first_piece (parts execs) j)).kind ≡ true
     x_leads = ap (λ (p : Piece). leads_on p.kind) (old_kind x x_below) ∙ ap leads_on (join_kind ps j some joined_here)
 
     holds_with : (rest : List ℕ) → holds_in (flow execs) (first_piece (parts execs) j ∷ rest) ≡ holds_in (flow execs) rest
-    holds_with rest =
-        let e : count_by (λ x. is_hold (piece_at (flow execs).pieces x).kind) (x ∷ rest) ≡ bit (is_hold (piece_at (flow execs).pieces x).kind) + count_by (λ x. is_hold (piece_at (flow execs).pieces x).kind) rest = count-cons (λ x. is_hold (piece_at (flow execs).pieces x).kind) x rest in
-        let b : bit (is_hold (piece_at (flow execs).pieces x).kind) ≡ 0 = bit_false (is_hold (piece_at (flow execs).pieces x).kind) (ap (λ (p : Piece). is_hold p.kind) (old_kind x x_below) ∙ ap is_hold (join_kind ps j some joined_here)) in
-        omega (arith, e, b)
+    holds_with rest = grind (arith, count_by, bit, count-cons, bit_false, old_kind, x_below, join_kind ps j some joined_here)
 
     x_alone : holds_in (flow execs) (first_piece (parts execs) j ∷ []) ≡ 0
     x_alone = holds_with []
@@ -203,7 +190,4 @@ module _ (told : IsTold) (met : IsMet) (names : List NameInfo) (execs : List Exe
       (cases_Bool (is_after_hold execs x))
 
   pub prefix_of : (j : ℕ) → j < length (parts execs) → IsPrefix j
-  prefix_of j some = ⊎_elim
-      (λ (h : is_joined ps (part_at ps j) ≡ true). joined_prefix j some h)
-      (λ (h : is_joined ps (part_at ps j) ≡ false). single_prefix j some h)
-      (cases_Bool (is_joined ps (part_at ps j)))
+  prefix_of j some = search (joined_prefix, single_prefix, arith)

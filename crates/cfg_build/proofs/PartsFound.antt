@@ -1,6 +1,6 @@
 -- Which parts a program has, and that each way from one leads to another.
-use Rattle.std.proofs.Common.{◌≡◌, ℕ, suc, ◌<◌, ◌≤◌, ◌⊎◌, true, false, List, [], ◌∷◌, ◌++◌, length, map, flat_map, Contains, slice_get, Option, Some, None, refl, sym, ap, ◌∙◌, subst, inl, inr, ⊎_elim, arith}
-use Rattle.std.proofs.lemmas.Bool.{cases_Bool, cases_lt, cond-true, cond-false}
+use Rattle.std.proofs.Common.{◌≡◌, ℕ, suc, ◌<◌, ◌⊎◌, true, List, [], ◌∷◌, ◌++◌, length, map, flat_map, Contains, slice_get, Option, Some, None, refl, sym, ap, ◌∙◌, subst, inl, inr, ⊎_elim, arith}
+use Rattle.std.proofs.lemmas.Bool.{cond-true, cond-false}
 use Rattle.std.specs.List.{range_with_len}
 use Rattle.f77_tree.specs.declared.programs.Exec.{Exec}
 use Rattle.f77_tree.specs.declared.programs.ExecKind.{ExecKind}
@@ -25,15 +25,7 @@ use Rattle.cfg_build.proofs.ControlGraph.{control_leads, exec_at, exec_below, le
 -- ---- an executable by itself
 
 pub cases_End : (kind : ExecKind) → (kind ≡ End) ⊎ (kind ≡ End → ⊥)
-cases_End (Assign target value next) = inr (λ h. cc)
-cases_End (Print items next) = inr (λ h. cc)
-cases_End (Pass next) = inr (λ h. cc)
-cases_End (Testing c if_true if_false) = inr (λ h. cc)
-cases_End (Sign value neg zero' pos) = inr (λ h. cc)
-cases_End (Pick value targets other) = inr (λ h. cc)
-cases_End (DoStart loop_no var first last step body exit) = inr (λ h. cc)
-cases_End (DoNext loop_no var body exit) = inr (λ h. cc)
-cases_End End = inl refl
+cases_End h = grind arith
 
 -- a part with this target
 pub record HasPart (ps : List Part) (t : Target) : Type 0 where
@@ -60,16 +52,7 @@ some_loop : (a b : Loop) → Some a ≡ Some b → a ≡ b
 some_loop a b h = cc
 
 pub test_in : (execs : List Exec) (k line : ℕ) (kind : ExecKind) (loop : Loop) → begun kind ≡ Some loop → Member (parts_of execs k line kind) (test_part k line loop)
-test_in execs k line (Assign target value next) loop begins = absurd cc
-test_in execs k line (Print items next) loop begins = absurd cc
-test_in execs k line (Pass next) loop begins = absurd cc
-test_in execs k line (Testing c if_true if_false) loop begins = absurd cc
-test_in execs k line (Sign value neg zero' pos) loop begins = absurd cc
-test_in execs k line (Pick value targets o) loop begins = absurd cc
-test_in execs k line (DoStart loop_no var first last step body exit) loop begins =
-    inr (inl (ap (λ l. test_part k line l) (some_loop (record { number = loop_no; variable = var; body = body; exit = exit }) loop begins)))
-test_in execs k line (DoNext loop_no var body exit) loop begins = absurd cc
-test_in execs k line End loop begins = absurd cc
+test_in execs k line h loop begins = grind (arith, some_loop)
 
 -- A way that leads from an executable's part: to a successor, or to its own test, or to that of a DO that it increments.
 pub data IsWay (execs : List Exec) (k : ℕ) (kind : ExecKind) (t : Target) : Type 0 where
@@ -141,10 +124,7 @@ module _ (execs : List Exec) where
   part_in_some p k (Some exec) found reached m = record { at = k; exec = exec; found = found; reached = reached; among = m }
 
   part_reached : (p : Part) (k : ℕ) → Member (reached_parts execs k) p → IsExecPart execs p
-  part_reached p k m = ⊎_elim
-      (λ (h : is_reached execs k ≡ true). part_in_some p k (slice_get execs k) refl h (subst (λ ps. Member ps p) (cond-true (is_reached execs k) (parts_in execs k (slice_get execs k)) [] h) m))
-      (λ (h : is_reached execs k ≡ false). absurd (subst (λ ps. Member ps p) (cond-false (is_reached execs k) (parts_in execs k (slice_get execs k)) [] h) m))
-      (cases_Bool (is_reached execs k))
+  part_reached p k m = grind (arith, part_in_some p, cond-true, cond-false)
 
   pub cases_part : (p : Part) → Member (parts execs) p → (start_part ≡ p) ⊎ (IsExecPart execs p ⊎ (end_part execs ≡ p))
   cases_part p (inl same) = inl same
@@ -161,13 +141,7 @@ lead_of : (execs : List Exec) (k s : ℕ) (exec : Exec) → slice_get execs k �
 lead_of execs k s exec found m = subst (λ e. Contains (successors_in e) s) (sym found) (Contains-from_Member (successors exec.kind) s m)
 
 cases_range : (execs : List Exec) (n k : ℕ) → InRange execs n k ⊎ (InRange execs n k → ⊥)
-cases_range execs n k = ⊎_elim
-    (λ (h : do_start execs n < k). ⊎_elim
-    (λ (l : do_next execs n < k). inr (λ (r : InRange execs n k). omega (arith, r.up_to_next, l)))
-    (λ (l : k ≤ do_next execs n). inl (record { after_start = h; up_to_next = l }))
-    (cases_lt (do_next execs n) k))
-    (λ (h : k ≤ do_start execs n). inr (λ (r : InRange execs n k). omega (arith, r.after_start, h)))
-    (cases_lt (do_start execs n) k)
+cases_range execs n k = grind arith
 
 module _ (told : IsTold) (names : List NameInfo) (execs : List Exec) (loops : ℕ) (well : AreExecs names execs loops) where
   some_exec : 0 < length execs
@@ -237,15 +211,11 @@ module _ (told : IsTold) (names : List NameInfo) (execs : List Exec) (loops : �
 
   way_has : (k : ℕ) (exec : Exec) (t : Target) → slice_get execs k ≡ Some exec → is_reached execs k ≡ true → IsWay execs k exec.kind t → HasPart (parts execs) t
   way_has k exec t found reached (To s m is) =
-      let leads : LeadsTo execs k s = lead_of execs k s exec found m in
-      let r : HasPart (parts execs) (First s) = first_has s (lead_below execs well.successors k s leads) (reached_next execs well.successors told some_exec k s (exec_below execs k exec found) reached leads) in
-      record { one = r.one; among = r.among; own = r.own ∙ sym is }
+      grind (arith, lead_of execs k s exec found m, first_has s, lead_below execs well.successors k s, reached_next execs well.successors told some_exec k s (exec_below execs k exec found) reached, some_exec, exec_below execs k exec found)
   way_has k exec t found reached (Begins loop begins is) =
-      let r = test_has k loop (begun_of_kind k exec loop found begins) reached in
-      record { one = test_part k r.0 loop; among = r.1; own = sym is }
+      grind (arith, test_has k loop (begun_of_kind k exec loop found begins) reached, begun_of_kind k exec loop found begins)
   way_has k exec t found reached (Increments loop increments is) =
-      let r = increment_has k loop (at_of_kind k exec loop found increments) reached in
-      record { one = test_part (do_start execs loop.number) r.0 loop; among = r.1; own = sym is }
+      grind (arith, increment_has k loop (at_of_kind k exec loop found increments) reached, at_of_kind k exec loop found increments)
 
   none_out : (p : Part) (t : Target) → end_part execs ≡ p → Member p.outs t → ⊥
   none_out p t same m = subst (λ (x : Part). Member x.outs t) (sym same) m

@@ -1,6 +1,5 @@
 -- Passes in any flow graph: joins and holds lead on with the memory and the text as they are.
-use Rattle.std.proofs.Common.{◌≡◌, ℕ, zero, suc, ◌+◌, ℤ, true, List, [], ◌∷◌, ◌++◌, length, slice_get, refl, sym, ap, ◌∙◌, subst, append-nil, arith}
-use Rattle.std.proofs.lemmas.Bool.{false≢true}
+use Rattle.std.proofs.Common.{◌≡◌, ℕ, zero, suc, ◌+◌, ℤ, true, List, [], ◌∷◌, ◌++◌, length, slice_get, refl, ap, ◌∙◌, append-nil, arith}
 use Rattle.closed_walks.specs.Graph.{to}
 use Rattle.op_table.specs.declared.Trap.{Trap}
 use Rattle.f77_tree.specs.declared.programs.ExecKind.{ExecKind}
@@ -8,7 +7,6 @@ use Rattle.f77_tree.specs.declared.programs.Program.{Program}
 use Rattle.f77_tree.specs.Execution.{Memory}
 use Rattle.f77_tree.specs.Run.{Mark, Running, Ended, Trapped}
 use Rattle.cfg_build.specs.declared.pieces.PieceKind.{PieceKind}
-use Rattle.cfg_build.specs.declared.pieces.PieceKind.TheVariants as piece
 use Rattle.cfg_build.specs.Joined.{FlowGraph}
 use Rattle.cfg_build.specs.Flow.{piece_at}
 use Rattle.cfg_build.specs.Passes.{out, Passed, Along, pass_of, kind_in, PassState, after_pass}
@@ -56,19 +54,10 @@ module _ (f : FlowGraph) (p : Program) (input : List ℤ) where
 
   -- the pass of the piece at which it is
   pub passed_is : (x : PassState) (memory : Memory) (out : List ℕ) (node : ℕ) → IsAt x memory out node → passed_in x x.mark ≡ after_pass x (piece_at f.pieces node).line (pass_at node memory)
-  passed_is x memory out node h =
-      ap (λ mark. passed_in x mark) h.runs
-      ∙ ap (λ n. after_pass x (piece_at f.pieces n).line (pass_at n x.memory)) h.ends
-      ∙ ap (λ m. after_pass x (piece_at f.pieces node).line (pass_at node m)) h.memory_is
+  passed_is x memory out node h = cc
 
   led_on : (m : Memory) (out : ℕ → ℕ) (kind : PieceKind) (exec : ExecKind) → leads_on kind ≡ true → pass_of p input m out kind exec ≡ Along (out 0) m []
-  led_on m out piece.Join exec h = refl
-  led_on m out piece.Hold exec h = refl
-  led_on m out piece.Start exec h = absurd (false≢true h)
-  led_on m out piece.Act exec h = absurd (false≢true h)
-  led_on m out piece.Pass exec h = absurd (false≢true h)
-  led_on m out piece.Branch exec h = absurd (false≢true h)
-  led_on m out piece.End exec h = absurd (false≢true h)
+  led_on m out h exec h2 = grind arith
 
   -- a run that goes along an edge
   pub along_edge : (x : PassState) (memory : Memory) (written : List ℕ) (node line edge next : ℕ) (new : Memory) (text : List ℕ) → IsAt x memory written node → to f.graph edge ≡ next → IsAt (after_pass x line (Along edge new text)) new (written ++ text) next
@@ -76,18 +65,10 @@ module _ (f : FlowGraph) (p : Program) (input : List ℤ) where
 
   pub led_once : (x : PassState) (memory : Memory) (written : List ℕ) (node : ℕ) → IsAt x memory written node → leads_on (piece_at f.pieces node).kind ≡ true → IsAt (passed_in x x.mark) memory written (to f.graph (out f.graph node 0))
   led_once x memory written node h leads =
-      let piece = piece_at f.pieces node in
-      let is : passed_in x x.mark ≡ after_pass x piece.line (Along (out f.graph node 0) memory []) =
-      passed_is x memory written node h
-      ∙ ap (λ (passed : Passed). after_pass x piece.line passed) (led_on memory (out f.graph node) piece.kind (kind_in (slice_get p.execs piece.exec)) leads) in
-      subst (λ (y : PassState). IsAt y memory written (to f.graph (out f.graph node 0))) (sym is)
-      (subst (λ o. IsAt (after_pass x piece.line (Along (out f.graph node 0) memory [])) memory o (to f.graph (out f.graph node 0))) (append-nil written)
-      (along_edge x memory written node piece.line (out f.graph node 0) (to f.graph (out f.graph node 0)) memory [] h refl))
+      grind (arith, passed_is x memory written node h, led_on memory (out f.graph node), append-nil written, along_edge x memory written node)
 
   -- along joins and holds
   pub along_route : (prefix : List ℕ) (x : PassState) (memory : Memory) (written : List ℕ) (node last : ℕ) → IsAt x memory written node → IsRoute f node prefix last → IsAt (go (length prefix) x) memory written last
   along_route [] x memory written node last h route = record { runs = h.runs; memory_is = h.memory_is; out_is = h.out_is; ends = h.ends ∙ route }
   along_route (first ∷ rest) x memory written node last h route =
-      let here : IsAt x memory written first = record { runs = h.runs; memory_is = h.memory_is; out_is = h.out_is; ends = h.ends ∙ route.0 } in
-      subst (λ (y : PassState). IsAt y memory written last) (sym (go_first (length rest) x))
-      (along_route rest (passed_in x x.mark) memory written (to f.graph (out f.graph first 0)) last (led_once x memory written first here route.1) route.2)
+      grind (arith, go_first (length rest) x, along_route rest (passed_in x x.mark) memory written (to f.graph (out f.graph first 0)) last, led_once x memory written first)

@@ -4,14 +4,14 @@ use Rattle.closed_walks.specs.Graph.{edge_count, from, to}
 use Rattle.op_table.specs.declared.Trap.{Trap}
 use Rattle.f77_tree.specs.declared.programs.ExecKind.{ExecKind}
 use Rattle.f77_tree.specs.declared.programs.Program.{Program}
-use Rattle.f77_tree.specs.Execution.{Memory, Outcome, Goes, Stops, Ends, outcome}
+use Rattle.f77_tree.specs.Execution.{Memory, Outcome}
 use Rattle.f77_tree.specs.Run.{Mark, Running, Ended, Trapped}
 use Rattle.f77_tree.specs.WellFormed.{AreExecs}
 use Rattle.cfg_build.specs.declared.pieces.PieceKind.{PieceKind}
 use Rattle.cfg_build.specs.declared.pieces.PieceKind.TheVariants as piece
 use Rattle.cfg_build.specs.Joined.{finish}
 use Rattle.cfg_build.specs.Flow.{flow, piece_at}
-use Rattle.cfg_build.specs.Passes.{outs, out, Passed, Along, Traps, Done, IfAlong, acted, branched, choice, pass_of, pass, kind_in, PassState, after_pass, line_at, passed_from, passes}
+use Rattle.cfg_build.specs.Passes.{outs, out, Passed, IfAlong, acted, branched, choice, pass_of, pass, kind_in, PassState, after_pass, line_at, passed_from, passes}
 use Rattle.cfg_build.specs.Shape.{IsShaped}
 use Rattle.cfg_build.proofs.ReachedNodes.{IsTold}
 use Rattle.cfg_build.proofs.Lowest.{IsMet}
@@ -19,6 +19,7 @@ use Rattle.cfg_build.proofs.Strong.{holding}
 use Rattle.cfg_build.proofs.Shaped.{shaped}
 use Rattle.cfg_build.proofs.BranchChoices.{IsBelow}
 use Rattle.cfg_build.proofs.EdgesTaken.{out_leaves, some_out, one_chosen}
+use Rattle.std.proofs.Common.{arith}
 
 trapped_runs : (trap : Trap) (line : ℕ) → Trapped trap line ≡ Running → ⊥
 trapped_runs trap line h = absurd cc
@@ -32,22 +33,14 @@ module _ (told : IsTold) (met : IsMet) (p : Program) (input : List ℤ) (well : 
   Leaves x passed = IfAlong passed (λ next new text. (next < edge_count (flow p.execs).graph) × (from (flow p.execs).graph next ≡ x))
 
   acted_leaves : (x edge : ℕ) (o : Outcome) → (edge < edge_count (flow p.execs).graph) × (from (flow p.execs).graph edge ≡ x) → Leaves x (acted edge o)
-  acted_leaves x edge (Goes next memory text) leaves = leaves
-  acted_leaves x edge (Stops trap) leaves = tt
-  acted_leaves x edge Ends leaves = tt
+  acted_leaves x edge h leaves = grind arith
 
   branched_leaves : (x : ℕ) (m : Memory) (r : Result ℕ Trap) → IsBelow (length (outs (flow p.execs).graph x)) r → Leaves x (branched m (out (flow p.execs).graph x) r)
   branched_leaves x m (Ok i) below = out_leaves (flow p.execs).graph x i below
   branched_leaves x m (Err trap) below = tt
 
   kind_leaves : (x : ℕ) (m : Memory) (kind : PieceKind) (exec : ExecKind) → (kind ≢ piece.End → 0 < length (outs (flow p.execs).graph x)) → (kind ≡ piece.Branch → IsBelow (length (outs (flow p.execs).graph x)) (choice p.names m exec)) → Leaves x (pass_of p input m (out (flow p.execs).graph x) kind exec)
-  kind_leaves x m piece.Start exec some chosen = out_leaves (flow p.execs).graph x 0 (some (λ h. cc))
-  kind_leaves x m piece.Pass exec some chosen = out_leaves (flow p.execs).graph x 0 (some (λ h. cc))
-  kind_leaves x m piece.Join exec some chosen = out_leaves (flow p.execs).graph x 0 (some (λ h. cc))
-  kind_leaves x m piece.Hold exec some chosen = out_leaves (flow p.execs).graph x 0 (some (λ h. cc))
-  kind_leaves x m piece.Act exec some chosen = acted_leaves x (out (flow p.execs).graph x 0) (outcome p.names input m exec) (out_leaves (flow p.execs).graph x 0 (some (λ h. cc)))
-  kind_leaves x m piece.Branch exec some chosen = branched_leaves x m (choice p.names m exec) (chosen refl)
-  kind_leaves x m piece.End exec some chosen = tt
+  kind_leaves x m h exec some chosen = grind (arith, out_leaves, acted_leaves, branched_leaves)
 
   shape : IsShaped (flow p.execs) (finish p.execs)
   shape = shaped told met p.names p.execs p.loops well
@@ -71,9 +64,7 @@ module _ (told : IsTold) (met : IsMet) (p : Program) (input : List ℤ) (well : 
     leaves : y.mark ≡ Running → from (flow p.execs).graph y.edge ≡ to (flow p.execs).graph x.edge
 
   after_walks : (x : PassState) (line : ℕ) (passed : Passed) → x.edge < edge_count (flow p.execs).graph → Leaves (to (flow p.execs).graph x.edge) passed → Walks x (after_pass x line passed)
-  after_walks x line (Along edge memory text) exists leaves = record { exists = leaves.0; leaves = λ h. leaves.1 }
-  after_walks x line (Traps trap) exists leaves = record { exists = exists; leaves = λ h. absurd (trapped_runs trap line h) }
-  after_walks x line Done exists leaves = record { exists = exists; leaves = λ h. absurd (ended_runs h) }
+  after_walks x line h exists leaves = grind (arith, trapped_runs, ended_runs)
 
   next_walks : (x : PassState) (mark : Mark) → x.mark ≡ mark → x.edge < edge_count (flow p.execs).graph → Walks x (passed_from p input x mark)
   next_walks x Running is exists = after_walks x (line_at p x.edge) (pass p input x.edge x.memory) exists (pass_leaves x.edge x.memory exists)

@@ -5,7 +5,7 @@ use Rattle.closed_walks.specs.Graph.{to}
 use Rattle.f77_tree.specs.declared.programs.Exec.{Exec}
 use Rattle.f77_tree.specs.declared.programs.NameInfo.{NameInfo}
 use Rattle.f77_tree.specs.declared.programs.Program.{Program}
-use Rattle.f77_tree.specs.Run.{Mark, Running, Ended, Trapped, source}
+use Rattle.f77_tree.specs.Run.{Mark, source}
 use Rattle.f77_tree.specs.WellFormed.{AreExecs}
 use Rattle.cfg_build.specs.Control.{is_reached}
 use Rattle.cfg_build.specs.Routes.{AreChain}
@@ -25,28 +25,22 @@ use Rattle.cfg_build.proofs.ChainSteps.{Agrees}
 use Rattle.cfg_build.proofs.RunPasses.{LeadOn, passes_in, all_agree}
 use Rattle.cfg_build.proofs.LastPieces.{IsPlaced, own_leads, own_out}
 use Rattle.cfg_build.proofs.ChainsFound.{chain_found}
+use Rattle.std.proofs.lemmas.Grind.{elements}
 
 module _ (p : Program) (input : List ℤ) where
   same_pass : (x : PassState) (mark : Mark) → passed_in (flow p.execs) p input x mark ≡ passed_from p input x mark
-  same_pass x Running = refl
-  same_pass x Ended = refl
-  same_pass x (Trapped trap line) = refl
+  same_pass x h = grind arith
 
   pub same_run : (n : ℕ) → go (flow p.execs) p input n (passes p input 0) ≡ passes p input n
   same_run zero = refl
-  same_run (suc n) =
-      ap (λ (y : PassState). passed_in (flow p.execs) p input y y.mark) (same_run n)
-      ∙ same_pass (passes p input n) (passes p input n).mark
+  same_run (suc n) = grind (arith, passed_in (flow p.execs) p input, same_run n, same_pass (passes p input n) (passes p input n).mark)
 
 module _ (told : IsTold) (met : IsMet) (names : List NameInfo) (execs : List Exec) (loops : ℕ) (well : AreExecs names execs loops) where
   start_single : is_joined (parts execs) start_part ≡ false
   start_single = ap (λ n. nat_lt 1 n && cond (is_end start_part.piece.kind) false true) (no_way_to_start execs)
 
   start_at_zero : own_piece (parts execs) 0 ≡ 0
-  start_at_zero =
-      let none : joins (parts execs) start_part ≡ 0 = cond-false (is_joined (parts execs) start_part) 1 0 start_single in
-      let first : first_piece (parts execs) 0 ≡ 0 = refl in
-      omega (arith, none, first)
+  start_at_zero = grind (arith, elements, joins, cond-false, start_single, first_piece)
 
   -- edge 1 leads to the first executable
   pub first_entered : to (flow execs).graph 1 ≡ entry execs 0

@@ -1,14 +1,14 @@
 -- Each pass of a run lies within a step.
-use Rattle.std.proofs.Common.{◌≡◌, ℕ, zero, suc, ◌+◌, ◌<◌, ◌≤◌, ℤ, true, List, ◌∷◌, length, Some, slice_get, refl, sym, ap, ◌∙◌, subst, ⊎_elim, arith}
+use Rattle.std.proofs.Common.{◌≡◌, ℕ, zero, suc, ◌+◌, ◌<◌, ◌≤◌, ℤ, true, List, length, Some, slice_get, refl, sym, ap, ◌∙◌, subst, ⊎_elim, arith}
 use Rattle.std.proofs.lemmas.Bool.{cases_lt}
 use Rattle.f77_tree.specs.declared.programs.Exec.{Exec}
 use Rattle.f77_tree.specs.declared.programs.NameInfo.{NameInfo}
 use Rattle.f77_tree.specs.declared.programs.Program.{Program}
-use Rattle.f77_tree.specs.Run.{State, Mark, Running, Ended, Trapped, source}
+use Rattle.f77_tree.specs.Run.{State, Running, source}
 use Rattle.f77_tree.specs.WellFormed.{AreExecs}
 use Rattle.cfg_build.specs.Control.{IsReachedExec, is_reached}
 use Rattle.cfg_build.specs.Flow.{flow}
-use Rattle.cfg_build.specs.Passes.{PassState, passed_from, passes}
+use Rattle.cfg_build.specs.Passes.{PassState, passes}
 use Rattle.cfg_build.specs.Chains.{entry, has_test, chain, passes_of, StandsAt}
 use Rattle.cfg_build.specs.Routes.{AreChain}
 use Rattle.cfg_build.specs.Steps.{HasOwnPiece, IsWithin, IsWithinStep, LiesInStep}
@@ -19,30 +19,22 @@ use Rattle.cfg_build.proofs.ChainSteps.{trapped_runs, ended_runs, Agrees}
 use Rattle.cfg_build.proofs.PassSteps.{go, go_more}
 use Rattle.cfg_build.proofs.RunPasses.{LeadOn, IsInside, inside}
 use Rattle.cfg_build.proofs.PassesFollow.{same_run, passes_follow}
-use Rattle.cfg_build.proofs.OwnPieces.{IsOwn, own_piece_of}
+use Rattle.cfg_build.proofs.OwnPieces.{own_piece_of}
 use Rattle.cfg_build.proofs.PassesWithin.{within}
+use Rattle.std.proofs.lemmas.Grind.{elements}
 
 -- a chain has a piece
 pub chain_some : (execs : List Exec) (k : ℕ) → 0 < length (chain execs k)
-chain_some execs k = some (entry execs k) _
-  where
-    some : (x : ℕ) (xs : List ℕ) → 0 < length (x ∷ xs)
-    some x xs = omega arith
+chain_some execs k = grind arith
 
 -- a run that goes on went on before
 pub ran_before : (p : Program) (input : List ℤ) (n : ℕ) → (passes p input (suc n)).mark ≡ Running → (passes p input n).mark ≡ Running
-ran_before p input n runs = by (passes p input n).mark refl
-  where
-    by : (mark : Mark) → (passes p input n).mark ≡ mark → (passes p input n).mark ≡ Running
-    by Running is = is
-    by Ended is = absurd (ended_runs (sym is ∙ ap (λ (y : PassState). y.mark) (sym (ap (λ mark. passed_from p input (passes p input n) mark) is)) ∙ runs))
-    by (Trapped trap line) is = absurd (trapped_runs trap line (sym is ∙ ap (λ (y : PassState). y.mark) (sym (ap (λ mark. passed_from p input (passes p input n) mark) is)) ∙ runs))
+ran_before p input n runs = grind (arith, elements, ended_runs, trapped_runs)
 
 module _ (told : IsTold) (met : IsMet) where
   pub own_piece : (names : List NameInfo) (execs : List Exec) (loops k : ℕ) (exec : Exec) → IsReachedExec names execs loops k exec → HasOwnPiece execs k exec.kind
   own_piece names execs loops k exec is =
-      let own : IsOwn (flow execs) execs k exec.kind (chain execs k) = own_piece_of (flow execs) (entry execs) execs k exec.kind (chain execs k) (chain_found told met names execs loops is.well k exec is.found is.reached).are in
-      record { exists = own.exists; made = own.made }
+      grind (arith, own_piece_of (flow execs) (entry execs) execs k exec.kind (chain execs k) (chain_found told met names execs loops is.well k exec is.found is.reached).are, chain_found told met names execs loops is.well k exec is.found is.reached)
 
   module _ (lead_on : LeadOn) (p : Program) (input : List ℤ) (well : AreExecs p.names p.execs p.loops) where
     chains : (k : ℕ) (exec : Exec) → is_reached p.execs k ≡ true → slice_get p.execs k ≡ Some exec → AreChain (flow p.execs) (entry p.execs) p.execs k (has_test exec.kind) exec.kind (chain p.execs k)

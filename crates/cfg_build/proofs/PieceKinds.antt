@@ -1,14 +1,11 @@
 -- What stands at each piece of the joined graph, and how many ways lead on from it.
-use Rattle.std.proofs.Common.{◌≡◌, ℕ, zero, suc, ◌<◌, ◌⊎◌, true, List, [], ◌∷◌, ◌++◌, length, get_or, map, refl, ap, subst, inl, inr, ⊎_elim, arith}
+use Rattle.std.proofs.Common.{◌≡◌, ℕ, zero, suc, ◌<◌, ◌⊎◌, true, List, [], ◌∷◌, length, get_or, map, refl, ap, subst, inl, inr, ⊎_elim, arith}
 use Rattle.f77_tree.specs.declared.programs.Exec.{Exec}
 use Rattle.f77_tree.specs.declared.programs.ExecKind.{ExecKind}
-use Rattle.f77_tree.specs.declared.programs.ExecKind.TheVariants.{Assign, Print, Pass, Test as Testing, Sign, Pick, DoStart, DoNext, End}
-use Rattle.f77_tree.specs.Loops.{do_start}
 use Rattle.cfg_build.specs.declared.parts.Part.{Part}
-use Rattle.cfg_build.specs.declared.parts.Target.TheVariants.{First, Test}
 use Rattle.cfg_build.specs.declared.pieces.Piece.{Piece}
 use Rattle.cfg_build.specs.declared.pieces.PieceKind.TheVariants as piece
-use Rattle.cfg_build.specs.Parts.{part, parts, parts_of, start_part, end_part}
+use Rattle.cfg_build.specs.Parts.{parts, parts_of, start_part, end_part}
 use Rattle.cfg_build.specs.Joined.{Row, is_joined, join_row, part_row, rows}
 use Rattle.cfg_build.specs.Flow.{piece_at}
 use Rattle.list_laws.specs.Member.{Member}
@@ -23,24 +20,7 @@ kind_of : (p q : Part) → q ≡ p → IsExecKind q → IsExecKind p
 kind_of p q same k = subst (λ (x : Part). IsExecKind x) same k
 
 exec_kind : (execs : List Exec) (k line : ℕ) (kind : ExecKind) (p : Part) → Member (parts_of execs k line kind) p → IsExecKind p
-exec_kind execs k line (Assign target value next) p (inl same) = kind_of p (part (First k) piece.Act line k (First next ∷ [])) same (inl (refl, refl))
-exec_kind execs k line (Print items next) p (inl same) = kind_of p (part (First k) piece.Act line k (First next ∷ [])) same (inl (refl, refl))
-exec_kind execs k line (Pass next) p (inl same) = kind_of p (part (First k) piece.Pass line k (First next ∷ [])) same (inr (inl (refl, refl)))
-exec_kind execs k line (Testing c if_true if_false) p (inl same) = kind_of p (part (First k) piece.Branch line k (First if_true ∷ First if_false ∷ [])) same (inr (inr refl))
-exec_kind execs k line (Sign value neg zero' pos) p (inl same) = kind_of p (part (First k) piece.Branch line k (First neg ∷ First zero' ∷ First pos ∷ [])) same (inr (inr refl))
-exec_kind execs k line (Pick value targets o) p (inl same) = kind_of p (part (First k) piece.Branch line k (map First (targets ++ o ∷ []))) same (inr (inr refl))
-exec_kind execs k line (DoStart loop_no var first last step body exit) p (inl same) = kind_of p (part (First k) piece.Act line k (Test k ∷ [])) same (inl (refl, refl))
-exec_kind execs k line (DoStart loop_no var first last step body exit) p (inr (inl same)) = kind_of p (part (Test k) piece.Branch line k (First body ∷ First exit ∷ [])) same (inr (inr refl))
-exec_kind execs k line (DoStart loop_no var first last step body exit) p (inr (inr none)) = absurd none
-exec_kind execs k line (DoNext loop_no var body exit) p (inl same) = kind_of p (part (First k) piece.Act line k (Test (do_start execs loop_no) ∷ [])) same (inl (refl, refl))
-exec_kind execs k line (Assign target value next) p (inr none) = absurd none
-exec_kind execs k line (Print items next) p (inr none) = absurd none
-exec_kind execs k line (Pass next) p (inr none) = absurd none
-exec_kind execs k line (Testing c if_true if_false) p (inr none) = absurd none
-exec_kind execs k line (Sign value neg zero' pos) p (inr none) = absurd none
-exec_kind execs k line (Pick value targets o) p (inr none) = absurd none
-exec_kind execs k line (DoNext loop_no var body exit) p (inr none) = absurd none
-exec_kind execs k line End p none = absurd none
+exec_kind execs k line h p none = grind (arith, kind_of)
 
 -- the start, a part of an executable, or the end
 pub cases_kind : (execs : List Exec) (p : Part) → Member (parts execs) p → (start_part ≡ p) ⊎ (IsExecKind p ⊎ (end_part execs ≡ p))

@@ -1,5 +1,5 @@
 -- The number of each part, and the row of each piece.
-use Rattle.std.proofs.Common.{◌≡◌, ℕ, zero, suc, ◌+◌, ◌<◌, ◌≤◌, ◌⊎◌, true, false, cond, List, [], ◌∷◌, ◌++◌, length, get_or, take, flat_map, sum_by, refl, sym, ap, ◌∙◌, inl, inr, ⊎_elim, arith}
+use Rattle.std.proofs.Common.{◌≡◌, ℕ, zero, suc, ◌+◌, ◌<◌, ◌≤◌, ◌⊎◌, true, false, cond, List, [], ◌∷◌, length, get_or, take, flat_map, sum_by, refl, ap, inl, inr, ⊎_elim, arith}
 use Rattle.std.proofs.lemmas.Bool.{cases_Bool, cond_both, cond-true, cond-false}
 use Rattle.std.proofs.lemmas.List.{length-append, get_or_append_left, get_or-append-add}
 use Rattle.std.proofs.lemmas.List.Sums.{position_or_len_is, sum_by-cons}
@@ -29,10 +29,7 @@ own_piece ps j = first_piece ps j + joins ps (part_at ps j)
 -- ---- numbers
 
 pub position_of : (ps : List Part) (j : ℕ) → AreApart ps → j < length ps → position_or_len (λ part. is_same (part_at ps j).own part.own) ps ≡ j
-position_of ps j apart some =
-    position_or_len_is (λ (part : Part). is_same (part_at ps j).own part.own) ps j start_part (omega (arith, some))
-    (λ k less. apart k j less some)
-    (λ h. is_same_itself (part_at ps j).own)
+position_of ps j apart some = grind (arith, position_or_len_is, is_same_itself (part_at ps j).own)
 
 -- a target's number is that of its part's first piece
 pub number_is : (ps : List Part) (j : ℕ) → AreApart ps → j < length ps → number ps (part_at ps j).own ≡ first_piece ps j
@@ -42,27 +39,17 @@ pub some_width : (ps : List Part) (p : Part) → 1 ≤ width ps p
 some_width ps p = cond_both (is_joined ps p) 2 1 (λ n. 1 ≤ n) (λ h. omega arith) (λ h. omega arith)
 
 pub width_is : (ps : List Part) (p : Part) → width ps p ≡ 1 + joins ps p
-width_is ps p = ⊎_elim
-    (λ (h : is_joined ps p ≡ true). cond-true (is_joined ps p) 2 1 h ∙ sym (ap (λ n. 1 + n) (cond-true (is_joined ps p) 1 0 h)))
-    (λ (h : is_joined ps p ≡ false). cond-false (is_joined ps p) 2 1 h ∙ sym (ap (λ n. 1 + n) (cond-false (is_joined ps p) 1 0 h)))
-    (cases_Bool (is_joined ps p))
+width_is ps p = grind (arith, cond-true, cond-false)
 
 -- ---- rows
 
 length_rows_of : (ps : List Part) (p : Part) → length (rows_of ps p) ≡ width ps p
-length_rows_of ps p = ⊎_elim
-    (λ (h : is_joined ps p ≡ true). ap (λ (rs : List Row). length rs) (cond-true (is_joined ps p) (join_row ps p ∷ part_row ps p ∷ []) (part_row ps p ∷ []) h) ∙ sym (cond-true (is_joined ps p) 2 1 h))
-    (λ (h : is_joined ps p ≡ false). ap (λ (rs : List Row). length rs) (cond-false (is_joined ps p) (join_row ps p ∷ part_row ps p ∷ []) (part_row ps p ∷ []) h) ∙ sym (cond-false (is_joined ps p) 2 1 h))
-    (cases_Bool (is_joined ps p))
+length_rows_of ps p = grind (arith, cond-true, cond-false)
 
 pub length_rows_on : (ps qs : List Part) → length (flat_map (rows_of ps) qs) ≡ sum_by (width ps) qs
 length_rows_on ps [] = refl
 length_rows_on ps (q ∷ qs) =
-    let e1 : length (flat_map (rows_of ps) (q ∷ qs)) ≡ length (rows_of ps q) + length (flat_map (rows_of ps) qs) = length-append (rows_of ps q) (flat_map (rows_of ps) qs) in
-    let e2 : length (rows_of ps q) ≡ width ps q = length_rows_of ps q in
-    let e3 : length (flat_map (rows_of ps) qs) ≡ sum_by (width ps) qs = length_rows_on ps qs in
-    let e4 : sum_by (width ps) (q ∷ qs) ≡ width ps q + sum_by (width ps) qs = sum_by-cons (width ps) q qs in
-    omega (arith, e1, e2, e3, e4)
+    grind (arith, flat_map (rows_of ps) (q ∷ qs), flat_map (rows_of ps) qs, length-append (rows_of ps q) (flat_map (rows_of ps) qs), length_rows_of ps q, sum_by (width ps) qs, length_rows_on ps qs, sum_by, sum_by-cons (width ps) q qs)
 
 pub length_rows : (ps : List Part) → length (rows ps) ≡ sum_by (width ps) ps
 length_rows ps = length_rows_on ps ps
@@ -70,55 +57,25 @@ length_rows ps = length_rows_on ps ps
 rows_on : (ps qs : List Part) (j i : ℕ) (d : Row) → j < length qs → i < width ps (part_at qs j) → get_or (flat_map (rows_of ps) qs) (begins_at (width ps) qs j + i) d ≡ get_or (rows_of ps (part_at qs j)) i d
 rows_on ps [] j i d some within = absurd (omega (arith, some))
 rows_on ps (q ∷ qs) zero i d some within =
-    let same : length (rows_of ps q) ≡ width ps q = length_rows_of ps q in
-    let here : i < length (rows_of ps q) = omega (arith, same, within) in
-    let place : begins_at (width ps) (q ∷ qs) 0 + i ≡ i = omega arith in
-    ap (λ n. get_or (rows_of ps q ++ flat_map (rows_of ps) qs) n d) place ∙ get_or_append_left (rows_of ps q) (flat_map (rows_of ps) qs) d i here
+    grind (arith, length_rows_of ps q, begins_at, flat_map (rows_of ps) qs, get_or_append_left (rows_of ps q) (flat_map (rows_of ps) qs) d i)
 rows_on ps (q ∷ qs) (suc j) i d some within =
-    let same : length (rows_of ps q) ≡ width ps q = length_rows_of ps q in
-    let e : begins_at (width ps) (q ∷ qs) (suc j) ≡ width ps q + begins_at (width ps) qs j = begins_at_suc (width ps) q qs j in
-    let place : begins_at (width ps) (q ∷ qs) (suc j) + i ≡ length (rows_of ps q) + (begins_at (width ps) qs j + i) = omega (arith, same, e) in
-    ap (λ n. get_or (rows_of ps q ++ flat_map (rows_of ps) qs) n d) place
-    ∙ get_or-append-add (rows_of ps q) (flat_map (rows_of ps) qs) (begins_at (width ps) qs j + i) d
-    ∙ rows_on ps qs j i d (omega (arith, some)) within
+    grind (arith, length_rows_of ps q, begins_at, begins_at (width ps) qs j, begins_at_suc (width ps) q qs j, flat_map (rows_of ps) qs, get_or-append-add (rows_of ps q) (flat_map (rows_of ps) qs) (begins_at (width ps) qs j + i) d, rows_on ps qs j i d)
 
 -- the row of a join
 pub row_of_join : (ps : List Part) (j : ℕ) (d : Row) → j < length ps → is_joined ps (part_at ps j) ≡ true → get_or (rows ps) (first_piece ps j) d ≡ join_row ps (part_at ps j)
-row_of_join ps j d some joins =
-    let p : Part = part_at ps j in
-    let wide : width ps p ≡ 2 = cond-true (is_joined ps p) 2 1 joins in
-    let place : first_piece ps j ≡ first_piece ps j + 0 = omega arith in
-    ap (λ n. get_or (rows ps) n d) place
-    ∙ rows_on ps ps j 0 d some (omega (arith, wide))
-    ∙ ap (λ (rs : List Row). get_or rs 0 d) (cond-true (is_joined ps p) (join_row ps p ∷ part_row ps p ∷ []) (part_row ps p ∷ []) joins)
+row_of_join ps j d some joins = grind (arith, cond-true, rows_on ps ps j 0 d some)
 
 -- the row of a part
 pub row_of_part : (ps : List Part) (j : ℕ) (d : Row) → j < length ps → get_or (rows ps) (own_piece ps j) d ≡ part_row ps (part_at ps j)
-row_of_part ps j d some =
-    let p : Part = part_at ps j in
-    let wide : width ps p ≡ 1 + joins ps p = width_is ps p in
-    rows_on ps ps j (joins ps p) d some (omega (arith, wide))
-    ∙ ⊎_elim
-    (λ (h : is_joined ps p ≡ true).
-    ap (λ b. get_or (cond b (join_row ps p ∷ part_row ps p ∷ []) (part_row ps p ∷ [])) (cond b 1 0) d) h)
-    (λ (h : is_joined ps p ≡ false).
-    ap (λ b. get_or (cond b (join_row ps p ∷ part_row ps p ∷ []) (part_row ps p ∷ [])) (cond b 1 0) d) h)
-    (cases_Bool (is_joined ps p))
+row_of_part ps j d some = grind (arith, width_is, rows_on)
 
 -- ---- each piece is a part or its join
 
 pub own_below : (ps : List Part) (j : ℕ) → j < length ps → own_piece ps j < length (rows ps)
-own_below ps j some =
-    let p : Part = part_at ps j in
-    let wide : width ps p ≡ 1 + joins ps p = width_is ps p in
-    let all : length (rows ps) ≡ sum_by (width ps) ps = length_rows ps in
-    let within : first_piece ps j + width ps p ≤ sum_by (width ps) ps = ends_within (width ps) ps j start_part some in
-    omega (arith, wide, all, within)
+own_below ps j some = grind (arith, width_is ps, sum_by (width ps) ps, length_rows ps, ends_within (width ps) ps j start_part some)
 
 pub first_below : (ps : List Part) (j : ℕ) → j < length ps → first_piece ps j < length (rows ps)
-first_below ps j some =
-    let below : own_piece ps j < length (rows ps) = own_below ps j some in
-    omega (arith, below)
+first_below ps j some = grind (arith, own_below ps j some)
 
 pub record IsPieceOf (ps : List Part) (piece : ℕ) : Type 0 where
   pub part : ℕ

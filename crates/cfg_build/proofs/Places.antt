@@ -14,25 +14,13 @@ module _ {X : Type 0} (places : X → ℕ) where
   pub begins_before : (xs : List X) (i j : ℕ) (d : X) → i < j → j ≤ length xs → begins_at xs i + places (get_or xs i d) ≤ begins_at xs j
   begins_before [] i j d less within = absurd (omega (arith, less, within))
   begins_before (x ∷ xs) i zero d less within = absurd (omega (arith, less))
-  begins_before (x ∷ xs) zero (suc j) d less within =
-      let e : begins_at (x ∷ xs) (suc j) ≡ places x + begins_at xs j = begins_at_suc x xs j in
-      omega (arith, e)
-  begins_before (x ∷ xs) (suc i) (suc j) d less within =
-      let e : begins_at (x ∷ xs) (suc j) ≡ places x + begins_at xs j = begins_at_suc x xs j in
-      let f : begins_at (x ∷ xs) (suc i) ≡ places x + begins_at xs i = begins_at_suc x xs i in
-      let ih : begins_at xs i + places (get_or xs i d) ≤ begins_at xs j = begins_before xs i j d (omega (arith, less)) (omega (arith, within)) in
-      omega (arith, e, f, ih)
+  begins_before (x ∷ xs) zero (suc j) d less within = grind (arith, begins_at_suc x xs j)
+  begins_before (x ∷ xs) (suc i) (suc j) d less within = grind (arith, begins_at_suc x xs j, begins_at_suc x xs i, begins_before xs i j d)
 
   pub ends_within : (xs : List X) (i : ℕ) (d : X) → i < length xs → begins_at xs i + places (get_or xs i d) ≤ sum_by places xs
   ends_within [] i d some = absurd (omega (arith, some))
-  ends_within (x ∷ xs) zero d some =
-      let e : sum_by places (x ∷ xs) ≡ places x + sum_by places xs = sum_by-cons places x xs in
-      omega (arith, e)
-  ends_within (x ∷ xs) (suc i) d some =
-      let e : sum_by places (x ∷ xs) ≡ places x + sum_by places xs = sum_by-cons places x xs in
-      let f : begins_at (x ∷ xs) (suc i) ≡ places x + begins_at xs i = begins_at_suc x xs i in
-      let ih : begins_at xs i + places (get_or xs i d) ≤ sum_by places xs = ends_within xs i d (omega (arith, some)) in
-      omega (arith, e, f, ih)
+  ends_within (x ∷ xs) zero d some = grind (arith, sum_by, sum_by places xs, sum_by-cons places x xs)
+  ends_within (x ∷ xs) (suc i) d some = grind (arith, sum_by, sum_by places xs, sum_by-cons places x xs, begins_at_suc x xs i, ends_within xs i d)
 
   -- the place is the `nth` of the one with the number `one`
   pub record IsPlace (xs : List X) (d : X) (place : ℕ) : Type 0 where

@@ -1,15 +1,15 @@
 -- A hold that is put onto an edge of a drawing.
-use Rattle.std.proofs.Common.{◌≡◌, ℕ, ◌+◌, ◌<◌, List, [], ◌∷◌, ◌++◌, length, get_or, set, Some, sym, ap, ◌∙◌, arith, length-append}
-use Rattle.std.proofs.lemmas.List.{append_assoc, get_or_append_left, get_or_default, length_push, length-set}
+use Rattle.std.proofs.Common.{◌≡◌, ℕ, ◌+◌, ◌<◌, List, [], ◌∷◌, ◌++◌, length, get_or, set, sym, ap, ◌∙◌, arith, length-append}
+use Rattle.std.proofs.lemmas.List.{append_assoc, get_or_default, length_push, length-set}
 use Rattle.std.proofs.lemmas.Option.{slice_get-get_or}
 use Rattle.std.specs.Prelude.{slice_get}
 use Rattle.closed_walks.specs.Graph.{from, to}
 use Rattle.cfg_build.specs.declared.pieces.Piece.{Piece}
 use Rattle.cfg_build.specs.declared.pieces.PieceKind.TheVariants.{Hold}
-use Rattle.cfg_build.specs.Parts.{start_part}
 use Rattle.cfg_build.specs.Joined.{FlowGraph}
 use Rattle.cfg_build.specs.Holds.{with_hold}
 use Rattle.cfg_build.specs.Flow.{piece_at, piece_in}
+use Rattle.std.proofs.lemmas.Grind.{elements}
 
 abbrev pub drawing : List Piece → List (ℕ × ℕ) → FlowGraph
 drawing pieces edges = record { graph = record { nodes = length pieces; edges = edges }; pieces = pieces }
@@ -26,27 +26,15 @@ pub put_one : (pieces new : List Piece) (edges second third : List (ℕ × ℕ))
     → drawing new third ≡ with_hold finish (drawing pieces edges) edge (piece_at pieces x)
 unfolding from to
 put_one pieces new edges second third x edge finish hold e piece x_within edge_within hold_is e_is piece_is_at new_is second_is third_is =
-    let at : get_or edges edge (0, 0) ≡ e = get_or_default edges edge (0, 0) e edge_within ∙ sym e_is in
-    let all = set edges edge (e.0, hold) in
-    let drawn : third ≡ all ++ (hold, e.1) ∷ (hold, finish) ∷ [] = third_is ∙ ap (λ (xs : List (ℕ × ℕ)). xs ++ (hold, finish) ∷ []) second_is ∙ append_assoc all ((hold, e.1) ∷ []) ((hold, finish) ∷ []) in
-    ap (λ (xs : List (ℕ × ℕ)). record { graph = record { nodes = length new; edges = xs }; pieces = new }) drawn
-    ∙ ap (λ (ps : List Piece). record { graph = record { nodes = length ps; edges = all ++ (hold, e.1) ∷ (hold, finish) ∷ [] }; pieces = ps }) new_is
-    ∙ ap (λ n. record { graph = record { nodes = n; edges = all ++ (hold, e.1) ∷ (hold, finish) ∷ [] }; pieces = pieces ++ hold_for piece ∷ [] }) (length_push pieces (hold_for piece))
-    ∙ ap (λ n. record { graph = record { nodes = length pieces + 1; edges = set edges edge (e.0, n) ++ (n, e.1) ∷ (n, finish) ∷ [] }; pieces = pieces ++ hold_for piece ∷ [] }) hold_is
-    ∙ ap (λ (f : ℕ × ℕ). record { graph = record { nodes = length pieces + 1; edges = set edges edge (f.0, length pieces) ++ (length pieces, f.1) ∷ (length pieces, finish) ∷ [] }; pieces = pieces ++ hold_for piece ∷ [] }) (sym at)
-    ∙ ap (λ (p : Piece). with_hold finish (drawing pieces edges) edge p) (sym (piece_is pieces x piece x_within piece_is_at))
+    grind (arith, get_or_default edges edge (0, 0) e edge_within, append_assoc, length_push pieces (hold_for piece), piece_is pieces x piece x_within piece_is_at)
 
 -- what comes first stays
 pub prefix_stays : (pieces : List Piece) (more : List Piece) (k : ℕ) → k < length pieces → slice_get (pieces ++ more) k ≡ slice_get pieces k
-prefix_stays pieces more k within =
-    let d : Piece = hold_for start_part.piece in
-    slice_get-get_or (pieces ++ more) k d (omega (arith, within, length-append pieces more)) ∙ ap Some (get_or_append_left pieces more d k within) ∙ sym (slice_get-get_or pieces k d within)
+prefix_stays pieces more k within = grind (arith, elements, slice_get-get_or)
 
 -- how many pieces and edges there are with a hold more
 pub length_pieces : (finish : ℕ) (f : FlowGraph) (edge : ℕ) (piece : Piece) → length (with_hold finish f edge piece).pieces ≡ length f.pieces + 1
 length_pieces finish f edge piece = length_push f.pieces (hold_for piece)
 
 pub length_edges : (finish : ℕ) (f : FlowGraph) (edge : ℕ) (piece : Piece) → length (with_hold finish f edge piece).graph.edges ≡ length f.graph.edges + 2
-length_edges finish f edge piece =
-    let g = f.graph in
-    length-append (set g.edges edge (from g edge, g.nodes)) ((g.nodes, to g edge) ∷ (g.nodes, finish) ∷ []) ∙ ap (λ n. n + 2) (length-set g.edges edge (from g edge, g.nodes))
+length_edges finish f edge piece = grind (arith, length-append, length-set)

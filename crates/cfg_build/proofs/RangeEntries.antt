@@ -1,5 +1,5 @@
 -- The range of a DO is entered from its test alone, and its increment leads back to that.
-use Rattle.std.proofs.Common.{◌≡◌, ◌≢◌, ℕ, zero, suc, ◌+◌, ◌<◌, ◌≤◌, Bool, true, false, cond, nat_lt, ◌&&◌, List, [], ◌∷◌, ◌++◌, length, get_or, map, Contains, Option, Some, None, slice_get, refl, sym, ap, ◌∙◌, subst, inl, inr, ⊎_elim, arith}
+use Rattle.std.proofs.Common.{◌≡◌, ◌≢◌, ℕ, zero, suc, ◌+◌, ◌<◌, ◌≤◌, Bool, true, false, cond, nat_lt, ◌&&◌, List, [], ◌∷◌, length, get_or, Contains, Option, Some, None, slice_get, refl, sym, ap, ◌∙◌, subst, inl, inr, ⊎_elim, arith}
 use Rattle.std.proofs.lemmas.Bool.{cases_Bool, cases_lt, cond-false, false≢true}
 use Rattle.closed_walks.specs.Graph.{edge_count, from, to}
 use Rattle.f77_tree.specs.declared.programs.Exec.{Exec}
@@ -67,24 +67,7 @@ as_test : (line k : ℕ) (outs : List Target) (p : Part) → part (Test k) piece
 as_test line k outs p same = subst (λ (x : Part). IsOf k x) same (record { exec = refl; tests = λ h. refl }, refl)
 
 proper_in : (execs : List Exec) (k line : ℕ) (kind : ExecKind) (p : Part) → Member (parts_of execs k line kind) p → IsOf k p
-proper_in execs k line (Assign target value next) p (inl same) = as_first piece.Act line k (First next ∷ []) p same
-proper_in execs k line (Print items next) p (inl same) = as_first piece.Act line k (First next ∷ []) p same
-proper_in execs k line (Pass next) p (inl same) = as_first piece.Pass line k (First next ∷ []) p same
-proper_in execs k line (Testing c a b) p (inl same) = as_first piece.Branch line k (First a ∷ First b ∷ []) p same
-proper_in execs k line (Sign value a b c) p (inl same) = as_first piece.Branch line k (First a ∷ First b ∷ First c ∷ []) p same
-proper_in execs k line (Pick value targets o) p (inl same) = as_first piece.Branch line k (map First (targets ++ o ∷ [])) p same
-proper_in execs k line (DoStart loop_no var first last step body exit) p (inl same) = as_first piece.Act line k (Test k ∷ []) p same
-proper_in execs k line (DoStart loop_no var first last step body exit) p (inr (inl same)) = as_test line k (First body ∷ First exit ∷ []) p same
-proper_in execs k line (DoStart loop_no var first last step body exit) p (inr (inr none)) = absurd none
-proper_in execs k line (DoNext loop_no var body exit) p (inl same) = as_first piece.Act line k (Test (do_start execs loop_no) ∷ []) p same
-proper_in execs k line (Assign target value next) p (inr none) = absurd none
-proper_in execs k line (Print items next) p (inr none) = absurd none
-proper_in execs k line (Pass next) p (inr none) = absurd none
-proper_in execs k line (Testing c a b) p (inr none) = absurd none
-proper_in execs k line (Sign value a b c) p (inr none) = absurd none
-proper_in execs k line (Pick value targets o) p (inr none) = absurd none
-proper_in execs k line (DoNext loop_no var body exit) p (inr none) = absurd none
-proper_in execs k line End p none = absurd none
+proper_in execs k line h p none = grind (arith, as_first, as_test)
 
 proper_part : (execs : List Exec) (p : Part) → Member (parts execs) p → IsProper p
 proper_part execs p m = ⊎_elim
@@ -98,46 +81,11 @@ proper_part execs p m = ⊎_elim
 
 -- a way to an executable leaves the test of a DO that begins
 tested : (execs : List Exec) (k line : ℕ) (kind : ExecKind) (loop : Loop) (p : Part) (i s : ℕ) → begun kind ≡ Some loop → Member (parts_of execs k line kind) p → i < length p.outs → get_or p.outs i (First 0) ≡ First s → test_part k line loop ≡ p
-tested execs k line (Assign target value next) loop p i s begins m some is = absurd cc
-tested execs k line (Print items next) loop p i s begins m some is = absurd cc
-tested execs k line (Pass next) loop p i s begins m some is = absurd cc
-tested execs k line (Testing c a b) loop p i s begins m some is = absurd cc
-tested execs k line (Sign value a b c) loop p i s begins m some is = absurd cc
-tested execs k line (Pick value targets o) loop p i s begins m some is = absurd cc
-tested execs k line (DoStart loop_no var first last step body exit) loop p i s begins (inl same) some is =
-    absurd (only i (subst (λ (x : Part). i < length x.outs) (sym same) some) (ap (λ (x : Part). get_or x.outs i (First 0)) same ∙ is))
-  where
-    only : (i : ℕ) → i < 1 → get_or (Test k ∷ []) i (First 0) ≡ First s → ⊥
-    only zero some is = cc
-    only (suc i) some is = omega (arith, some)
-tested execs k line (DoStart loop_no var first last step body exit) loop p i s begins (inr (inl same)) some is =
-    let own : Loop = record { number = loop_no; variable = var; body = body; exit = exit } in
-    let l : Some own ≡ Some loop = begins in
-    ap (λ x. test_part k line x) (sym (some_loop own loop l)) ∙ same
-  where
-    some_loop : (a b : Loop) → Some a ≡ Some b → a ≡ b
-    some_loop a b h = cc
-tested execs k line (DoStart loop_no var first last step body exit) loop p i s begins (inr (inr none)) some is = absurd none
-tested execs k line (DoNext loop_no var body exit) loop p i s begins m some is = absurd cc
-tested execs k line End loop p i s begins m some is = absurd cc
+tested execs k line h loop p i s begins m some is = grind (arith, test_part)
 
 -- an increment has one part, which leads to the test of its DO
 incremented_outs : (execs : List Exec) (k line : ℕ) (kind : ExecKind) (loop : Loop) (p : Part) → incremented kind ≡ Some loop → Member (parts_of execs k line kind) p → p.outs ≡ Test (do_start execs loop.number) ∷ []
-incremented_outs execs k line (Assign target value next) loop p increments m = absurd cc
-incremented_outs execs k line (Print items next) loop p increments m = absurd cc
-incremented_outs execs k line (Pass next) loop p increments m = absurd cc
-incremented_outs execs k line (Testing c a b) loop p increments m = absurd cc
-incremented_outs execs k line (Sign value a b c) loop p increments m = absurd cc
-incremented_outs execs k line (Pick value targets o) loop p increments m = absurd cc
-incremented_outs execs k line (DoStart loop_no var first last step body exit) loop p increments m = absurd cc
-incremented_outs execs k line (DoNext loop_no var body exit) loop p increments (inl same) =
-    let own : Loop = record { number = loop_no; variable = var; body = body; exit = exit } in
-    ap (λ (x : Part). x.outs) (sym same) ∙ ap (λ (x : Loop). Test (do_start execs x.number) ∷ []) (some_loop own loop increments)
-  where
-    some_loop : (a b : Loop) → Some a ≡ Some b → a ≡ b
-    some_loop a b h = cc
-incremented_outs execs k line (DoNext loop_no var body exit) loop p increments (inr none) = absurd none
-incremented_outs execs k line End loop p increments m = absurd cc
+incremented_outs execs k line h loop p increments m = grind arith
 
 -- ---- pieces after holds
 
@@ -150,8 +98,7 @@ module _ (told : IsTold) (met : IsMet) (names : List NameInfo) (execs : List Exe
 
   exec_own : (j : ℕ) → j < length ps → exec_at (flow execs) (own_piece ps j) ≡ exec_of (part_at ps j).own
   exec_own j some =
-      ap (λ (q : Piece). q.exec) (old_kind told met names execs loops well (own_piece ps j) (own_below ps j some) ∙ piece_of_part ps j some)
-      ∙ (proper_part execs (part_at ps j) (among j some)).exec
+      grind (arith, old_kind told met names execs loops well (own_piece ps j) (own_below ps j some), own_piece ps j, own_below ps j some, piece_of_part ps j some, proper_part execs (part_at ps j) (among j some), part_at ps j, among j some)
 
   own_of_single : (j : ℕ) → is_joined ps (part_at ps j) ≡ false → first_piece ps j ≡ own_piece ps j
   own_of_single j single = let none : joins ps (part_at ps j) ≡ 0 = cond-false (is_joined ps (part_at ps j)) 1 0 single in omega (arith, none)
@@ -309,11 +256,8 @@ module _ (told : IsTold) (met : IsMet) (names : List NameInfo) (execs : List Exe
             none h = omega (arith, h)
 
       by_old : IsOldWay told met names execs loops well e → IsWayIn execs n e
-      by_old (Back begins ends) =
-          let first : exec_at (flow execs) 0 ≡ 0 = exec_first 0 (omega arith) in
-          absurd (zero_outside n (subst (λ k. InRange execs n k) (ap (λ x. exec_at (flow execs) x) ends ∙ first) inside))
-      by_old (Joins j some joined begins ends) =
-          absurd (same_exec (ap (λ x. exec_at (flow execs) x) begins ∙ exec_first j some ∙ sym (exec_own j some) ∙ ap (λ x. exec_at (flow execs) x) (sym ends)))
+      by_old (Back begins ends) = grind (arith, exec_first 0, zero_outside n)
+      by_old (Joins j some joined begins ends) = grind (arith, same_exec, exec_first j some, exec_own j some)
       by_old (Way j i some within begins ends at) = by_part j i some within begins ends at
 
     pub enters : (e : ℕ) → IsPlain (flow execs) e → (IsInBody execs n (from (flow execs).graph e) → ⊥) → IsInBody execs n (to (flow execs).graph e) → IsWayIn execs n e
@@ -338,14 +282,10 @@ module _ (told : IsTold) (met : IsMet) (names : List NameInfo) (execs : List Exe
   own_not_join j some = ap (λ (q : Piece). is_join q.kind) (old_kind told met names execs loops well (own_piece ps j) (own_below ps j some)) ∙ own_plain told met names execs loops well j some
 
   join_leads : (n j : ℕ) → j < length ps → is_joined ps (part_at ps j) ≡ true → (part_at ps j).own ≡ Test (do_start execs n) → (e : ℕ) → IsOldWay told met names execs loops well e → from (flow execs).graph e ≡ first_piece ps j → IsTest execs n (to (flow execs).graph e)
-  join_leads n j some joined own e (Back begins ends) at =
-      let k : piece.End ≡ piece.Join = sym finish_kind ∙ ap (λ x. kind_at (flow execs) x) (sym begins ∙ at) ∙ join_own j some joined in
-      absurd (false≢true (ap is_join k))
+  join_leads n j some joined own e (Back begins ends) at = grind (arith, finish_kind, join_own j some joined)
   join_leads n j some joined own e (Joins i i_some i_joined begins ends) at =
-      let same : i ≡ j = same_first ps i j i_some some (sym begins ∙ at) in
-      subst (λ x. IsTest execs n x) (sym (ends ∙ ap (λ x. own_piece ps x) same)) (own_test n j some own)
-  join_leads n j some joined own e (Way i nth i_some within begins ends place) at =
-      absurd (false≢true (sym (own_not_join i i_some) ∙ ap (λ x. is_join (kind_at (flow execs) x)) (sym begins ∙ at) ∙ ap is_join (join_own j some joined)))
+      grind (arith, same_first ps i j i_some some, own_piece ps, own_test n j some own)
+  join_leads n j some joined own e (Way i nth i_some within begins ends place) at = grind (arith, own_not_join i i_some, join_own j some joined)
 
   at_test : (n j : ℕ) → j < length ps → (part_at ps j).own ≡ Test (do_start execs n) → IsAtTest execs n (first_piece ps j)
   at_test n j some own = ⊎_elim

@@ -1,9 +1,9 @@
 -- What is reached in a graph, as far as the flow graph needs it.
-use Rattle.std.proofs.Common.{◌≡◌, ◌↔◌, ℕ, ◌<◌, ◌⊎◌, true, false, List, [], ◌∷◌, ◌++◌, refl, sym, ◌∙◌, subst, inl, inr, ⊎_elim}
-use Rattle.std.proofs.lemmas.Bool.{cases_Bool, false≢true}
+use Rattle.std.proofs.Common.{◌≡◌, ◌↔◌, ℕ, ◌<◌, ◌⊎◌, true, List, [], ◌∷◌, ◌++◌, refl, sym, subst}
 use Rattle.closed_walks.specs.Graph.{Graph, IsGraph, edge_count, from, to}
 use Rattle.closed_walks.specs.Walk.{Walk, Avoids, Reach, no_edge}
 use Rattle.closed_walks.specs.Reaching.{reaches}
+use Rattle.std.proofs.Common.{arith}
 
 -- what the law on the test `reaches` says
 abbrev pub IsTold : Type 0
@@ -52,7 +52,4 @@ module _ (g : Graph) where
   kept P keeps u v r here = kept_on P keeps u v r.walk r.leads here
 
   pub cases_Reaches : IsTold → IsGraph g → (u v : ℕ) → u < g.nodes → Reaches g u v ⊎ (Reaches g u v → ⊥)
-  cases_Reaches told sound u v node = ⊎_elim
-      (λ (h : reaches g u v ≡ true). inl ((told g u v sound node).0 h))
-      (λ (h : reaches g u v ≡ false). inr (λ r. false≢true (sym h ∙ (told g u v sound node).1 r)))
-      (cases_Bool (reaches g u v))
+  cases_Reaches told sound u v node = grind arith

@@ -89,8 +89,7 @@ has_way execs k line (Pass next) p (inl same) = has_way_of p (part (First k) pie
 has_way execs k line (Testing c if_true if_false) p (inl same) = has_way_of p (part (First k) piece.Branch line k (First if_true ∷ First if_false ∷ [])) same (record { target = First if_true; among = inl refl })
 has_way execs k line (Sign value neg zero' pos) p (inl same) = has_way_of p (part (First k) piece.Branch line k (First neg ∷ First zero' ∷ First pos ∷ [])) same (record { target = First neg; among = inl refl })
 has_way execs k line (Pick value targets o) p (inl same) =
-    has_way_of p (part (First k) piece.Branch line k (map First (targets ++ o ∷ []))) same
-    (record { target = First o; among = Member-map First (targets ++ o ∷ []) o (Member-right targets (o ∷ []) o (inl refl)) })
+    grind (arith, has_way_of p (part (First k) piece.Branch line k (map First (targets ++ o ∷ []))) same, Member-map First (targets ++ o ∷ []) o, Member-right targets (o ∷ []) o)
 has_way execs k line (DoStart loop_no var first last step body exit) p (inl same) = has_way_of p (part (First k) piece.Act line k (Test k ∷ [])) same (record { target = Test k; among = inl refl })
 has_way execs k line (DoStart loop_no var first last step body exit) p (inr (inl same)) = has_way_of p (part (Test k) piece.Branch line k (First body ∷ First exit ∷ [])) same (record { target = First body; among = inl refl })
 has_way execs k line (DoStart loop_no var first last step body exit) p (inr (inr none)) = absurd none
@@ -138,9 +137,7 @@ module _ (told : IsTold) (names : List NameInfo) (execs : List Exec) (loops : �
   goes_on p t m out at = step (parts execs) (finish execs) apart 0 p t m out at
 
   at_start : At Start
-  at_start =
-      let is : number (parts execs) Start ≡ 0 = number_of_one (parts execs) (finish execs) apart 0 start_part (omega arith) refl in
-      stay g 0 (number (parts execs) Start) (sym is)
+  at_start = grind (arith, number_of_one (parts execs) (finish execs) apart 0 start_part, apart, stay g 0 (number (parts execs) Start))
 
   at_first : At (First 0)
   at_first = goes_on start_part (First 0) (member_start execs) (inl refl) at_start
@@ -156,8 +153,7 @@ module _ (told : IsTold) (names : List NameInfo) (execs : List Exec) (loops : �
 
     exec_to : (s : ℕ) → LeadsTo execs k s → At (First k) → At (First s)
     exec_to s lead at =
-        to_successor execs k exec.line At exec.kind s exec_goes_on increment_goes_on
-        (subst (λ e. Member (successors_in e) s) found (Member-from_Contains (successors_in (slice_get execs k)) s lead)) at
+        grind (arith, to_successor execs k exec.line At exec.kind s exec_goes_on increment_goes_on, exec_goes_on, increment_goes_on, Member-from_Contains (successors_in (slice_get execs k)) s lead)
 
     exec_part : (p : Part) → Member (parts_of execs k exec.line exec.kind) p → At (First k) → At p.own
     exec_part p m at = to_part execs k exec.line At exec.kind p exec_goes_on m at

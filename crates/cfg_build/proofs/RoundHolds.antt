@@ -28,7 +28,7 @@ use Rattle.cfg_build.proofs.Holding.{begun, AreHeld, all_held}
 use Rattle.cfg_build.proofs.JoinedGraph.{row_graph, edge_zero}
 use Rattle.cfg_build.proofs.Lowest.{IsHeldBy, held_says}
 use Rattle.list_laws.specs.Member.{Member}
-use Rattle.list_laws.proofs.Members.{Member-left, Member-at, IsAt, at_of, Member-filter, Member-filtered, Member-range, Member-in_range}
+use Rattle.list_laws.proofs.Members.{Member-left, Member-at, at_of, Member-filter, Member-filtered, Member-range, Member-in_range}
 use Rattle.cfg_build.proofs.PieceKinds.{pieces_of, length_pieces}
 use Rattle.cfg_build.proofs.ReachedNodes.{IsTold, Reaches, stay, along}
 use Rattle.cfg_build.proofs.ReachedPieces.{joined_sound, finish_below}
@@ -83,12 +83,7 @@ module _ (told : IsTold) (names : List NameInfo) (execs : List Exec) (loops : �
 
     apart : (q p : ℕ) → q < p → p < length done → edge_of (get_or done q 0) ≢ edge_of (get_or done p 0)
     apart q p less some =
-        let a : IsOne (get_or done q 0) = is_one q (omega (arith, less, some)) in
-        let b : IsOne (get_or done p 0) = is_one p some in
-        let r : get_or (held execs) q 0 < get_or (held execs) p 0 = held_rise told names execs loops well q p less (omega (arith, some, lengths)) in
-        let q_is : get_or (held execs) q 0 ≡ get_or done q 0 = done_at q (omega (arith, less, some)) in
-        let p_is : get_or (held execs) p 0 ≡ get_or done p 0 = done_at p some in
-        edges_apart told names execs loops well (get_or done q 0) (get_or done p 0) a.below b.below a.is b.is (omega (arith, r, q_is, p_is))
+        grind (arith, is_one q, is_one p some, held_rise told names execs loops well q p less, lengths, done_at q, done_at p some, edges_apart told names execs loops well (get_or done q 0) (get_or done p 0))
 
     after : AfterHolds (row_graph (parts execs) (finish execs)) (finish execs) (edge_for told names execs loops well) done (length done) (fold (with_hold_for execs) (joined execs) done).graph
     after =
@@ -102,10 +97,7 @@ module _ (told : IsTold) (names : List NameInfo) (execs : List Exec) (loops : �
         (λ x m. edge_is x (member_one x m))
 
     pieces : HasHolds (joined execs) (finish execs) (fold (with_hold_for execs) (joined execs) done)
-    pieces =
-        all_more (joined execs) end (edge_for told names execs loops well) (λ x. piece_at (pieces_of (parts execs)) x) end_below done (joined execs)
-        (none_yet (joined execs) end sound (length_pieces (parts execs)))
-        (λ x m. edge_is x (member_one x m))
+    pieces = search (all_more, edge_for, pieces_of, end_below, none_yet, sound, length_pieces, edge_is, member_one, arith)
 
     was : (x : ℕ) → x < length (rows (parts execs)) → is_stuck (fold (with_hold_for execs) (joined execs) done).graph (finish execs) x ≡ true → (is_on_cycle (row_graph (parts execs) (finish execs)) x ≡ true) × (Leaves (row_graph (parts execs) (finish execs)) (finish execs) done x → ⊥)
     was x node stuck =
@@ -124,9 +116,7 @@ module _ (told : IsTold) (names : List NameInfo) (execs : List Exec) (loops : �
         (λ q some. holds.lead (get_or done q 0) (Member-at done q 0 some)) x node stuck way
 
     reaches_done : (x z : ℕ) → Reaches (row_graph (parts execs) (finish execs)) x z → Member done z → Leaves (row_graph (parts execs) (finish execs)) (finish execs) done x
-    reaches_done x z r m =
-        let at : IsAt done z = at_of done z m in
-        inr (record { place = at.place; exists = at.exists; reach = subst (λ n. Reaches g x n) (sym (at.is 0)) r })
+    reaches_done x z r m = grind (arith, at_of done z m)
 
     leaves_done : (x : ℕ) → x < length (rows (parts execs)) → ((z : ℕ) → Member (held execs) z → z ≤ x → Member done z) → Leaves (row_graph (parts execs) (finish execs)) (finish execs) (filter (is_held (row_graph (parts execs) (finish execs)) (finish execs)) (range_with_len 0 x)) x → Leaves (row_graph (parts execs) (finish execs)) (finish execs) done x
     leaves_done x node lower (inl way) = inl way
@@ -191,25 +181,11 @@ module _ (told : IsTold) (names : List NameInfo) (execs : List Exec) (loops : �
     -- those before it are lower
     done_lower : (q : ℕ) → q < length done → get_or done q 0 < y
     done_lower q less =
-        let r : get_or (held execs) q 0 < get_or (held execs) (length done) 0 = held_rise told names execs loops well q (length done) less some in
-        omega (arith, r, next_is, done_at done (y ∷ more) split q less)
+        grind (arith, held_rise told names execs loops well q (length done) less some, some, next_is, done_at done (y ∷ more) split q less)
 
     lower_done : (z : ℕ) → Member (held execs) z → z < y → Member done z
     lower_done z m less =
-        let at : IsAt (held execs) z = at_of (held execs) z m in
-        let is : get_or (held execs) at.place 0 ≡ z = at.is 0 in
-        ⊎_elim
-        (λ (early : at.place < length done). subst (λ x. Member done x) (sym (done_at done (y ∷ more) split at.place early) ∙ is) (Member-at done at.place 0 early))
-        (λ (late : length done ≤ at.place). ⊎_elim
-        (λ (later : length done < at.place).
-        let r : get_or (held execs) (length done) 0 < get_or (held execs) at.place 0 = held_rise told names execs loops well (length done) at.place later at.exists in
-        absurd (omega (arith, r, next_is, is, less)))
-        (λ (here : at.place ≤ length done).
-        let same : at.place ≡ length done = omega (arith, late, here) in
-        let its : get_or (held execs) at.place 0 ≡ get_or (held execs) (length done) 0 = ap (λ n. get_or (held execs) n 0) same in
-        absurd (omega (arith, its, next_is, is, less)))
-        (cases_lt (length done) at.place))
-        (cases_lt at.place (length done))
+        grind (arith, at_of (held execs) z m, done_at done (y ∷ more) split, Member-at done, held_rise told names execs loops well (length done), next_is, cases_lt (length done))
 
     y_says : IsHeldBy told (row_graph (parts execs) (finish execs)) sound (finish execs) y
     y_says = held_says told g sound end y y_one.below y_one.is
@@ -272,14 +248,7 @@ module _ (told : IsTold) (names : List NameInfo) (execs : List Exec) (loops : �
         (λ less. ap (λ n. n == y) (a.free at found (λ q few. λ (s : edge_of (get_or done q 0) ≡ at). not_held q few (s ∙ sym is))) ∙ passes_at_first (comes_to y) g.edges (0, 0) found)
 
     edge_same : held_edge (fold (with_hold_for execs) (joined execs) done).graph y (piece_at (pieces_of (parts execs)) y).kind ≡ held_edge (row_graph (parts execs) (finish execs)) y (piece_at (pieces_of (parts execs)) y).kind
-    edge_same = ⊎_elim
-        (λ (h : is_join kind ≡ true).
-        cond-true (is_join kind) (position_or_len (λ e. e.0 == y) f.graph.edges) (position_or_len (λ e. e.1 == y) f.graph.edges) h ∙ out_same h
-        ∙ sym (cond-true (is_join kind) (position_or_len (λ e. e.0 == y) g.edges) (position_or_len (λ e. e.1 == y) g.edges) h))
-        (λ (h : is_join kind ≡ false).
-        cond-false (is_join kind) (position_or_len (λ e. e.0 == y) f.graph.edges) (position_or_len (λ e. e.1 == y) f.graph.edges) h ∙ in_same h
-        ∙ sym (cond-false (is_join kind) (position_or_len (λ e. e.0 == y) g.edges) (position_or_len (λ e. e.1 == y) g.edges) h))
-        (cases_Bool (is_join kind))
+    edge_same = search (cond-true, out_same, cond-false, in_same, arith)
 
     same_hold : hold_at (finish execs) (fold (with_hold_for execs) (joined execs) done) y ≡ with_hold_for execs (fold (with_hold_for execs) (joined execs) done) y
     same_hold =
@@ -289,16 +258,12 @@ module _ (told : IsTold) (names : List NameInfo) (execs : List Exec) (loops : �
 
     one_round : (most : ℕ) → rounds (suc most) (finish execs) (fold (with_hold_for execs) (joined execs) done) ≡ rounds most (finish execs) (fold (with_hold_for execs) (joined execs) (done ++ y ∷ []))
     one_round most =
-        ap (λ n. cond (nat_lt n f.graph.nodes) (rounds most end (hold_at end f n)) f) lowest
-        ∙ cond-true (nat_lt y f.graph.nodes) (rounds most end (hold_at end f y)) f (lt-ltb y f.graph.nodes y_exists)
-        ∙ ap (λ (x : FlowGraph). rounds most end x) (same_hold ∙ sym (fold_push (with_hold_for execs) (joined execs) done y))
+        grind (arith, lowest, cond-true (nat_lt y f.graph.nodes) (rounds most end (hold_at end f y)) f (lt-ltb y f.graph.nodes y_exists), lt-ltb y f.graph.nodes y_exists, y_exists, same_hold, fold_push (with_hold_for execs) (joined execs) done y)
 
   -- ---- all rounds
 
   all_rounds : (rest done : List ℕ) → held execs ≡ done ++ rest → (most : ℕ) → length rest ≤ most → rounds most (finish execs) (fold (with_hold_for execs) (joined execs) done) ≡ flow execs
-  all_rounds [] done split most few =
-      let whole : held execs ≡ done = split ∙ append-nil done in
-      over done whole most ∙ ap (λ (xs : List ℕ). fold (with_hold_for execs) (joined execs) xs) (sym whole)
+  all_rounds [] done split most few = grind (arith, append-nil done, over done)
   all_rounds (y ∷ more) done split zero few = absurd (omega (arith, few))
   all_rounds (y ∷ more) done split (suc most) few =
       one_round done y more split most ∙ all_rounds more (done ++ y ∷ []) (split ∙ sym (append_assoc done (y ∷ []) more)) most (omega (arith, few))

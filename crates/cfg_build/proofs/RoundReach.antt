@@ -1,6 +1,6 @@
 -- What is reached after holds on some edges, and which pieces on cycles still can't come to the end.
 use Rattle.std.proofs.Common.{◌≡◌, ◌≢◌, ℕ, zero, suc, ◌+◌, ◌-◌, ◌<◌, ◌≤◌, ◌⊎◌, true, false, not, List, length, get_or, refl, sym, ap, ◌∙◌, subst, inl, inr, ⊎_elim, arith}
-use Rattle.std.proofs.lemmas.Bool.{cases_Bool, cases_lt, cases_eq, and_parts, and_from, not-true, not_from_false, false≢true}
+use Rattle.std.proofs.lemmas.Bool.{cases_Bool, cases_lt, cases_eq, and_parts, and_from, not-true, not_from_false}
 use Rattle.closed_walks.specs.Graph.{Graph, IsGraph, edge_count, from, to}
 use Rattle.closed_walks.specs.Reaching.{reaches}
 use Rattle.cfg_build.specs.Holds.{is_on_cycle}
@@ -79,35 +79,15 @@ module _ (g : Graph) (sound : IsGraph g) (finish : ℕ) (edge_of : ℕ → ℕ) 
       new : (q : ℕ) → q < length hs → w ≡ g.nodes + q → Reaches g u (from g (edge_of (get_or hs q 0)))
 
     from_old : (u k : ℕ) → k < edge_count g → IsFrom u (from f k) → Reaches g u (from g k)
-    from_old u k old here =
-        let tail : from f k ≡ from g k = h.tails k old in
-        let begins : from g k < g.nodes = sound.begins k old in
-        subst (λ n. Reaches g u n) tail (here.old (omega (arith, tail, begins)))
+    from_old u k old here = grind arith
 
     one_on : (u k : ℕ) → k < edge_count g → Reaches g u (from g k) → Reaches g u (to g k)
     one_on u k old r = along_last g u (from g k) (to g k) r (record { number = k; exists = old; begins = refl; ends = refl })
 
     go_on : (u k : ℕ) → IsNow k → IsFrom u (from f k) → Left u ⊎ IsFrom u (to f k)
-    go_on u k (Free old leads) here =
-        let ends : to g k < g.nodes = sound.ends k old in
-        inr (record {
-          old = λ l. subst (λ n. Reaches g u n) (sym leads) (one_on u k old (from_old u k old here));
-          new = λ q few s. absurd (omega (arith, s, leads, ends));
-        })
-    go_on u k (Held old q few on leads) here =
-        inr (record {
-          old = λ l. absurd (omega (arith, l, leads));
-          new = λ p p_few s.
-              let same : q ≡ p = omega (arith, s, leads) in
-              subst (λ n. Reaches g u (from g n)) (sym on ∙ ap (λ x. edge_of (get_or hs x 0)) same) (from_old u k old here);
-        })
-    go_on u k (Stays q few begins leads) here =
-        let e : IsHoldEdge g (get_or hs q 0) (edge_of (get_or hs q 0)) = edges q few in
-        let ends : to g (edge_of (get_or hs q 0)) < g.nodes = sound.ends (edge_of (get_or hs q 0)) e.exists in
-        inr (record {
-          old = λ l. subst (λ n. Reaches g u n) (sym leads) (one_on u (edge_of (get_or hs q 0)) e.exists (here.new q few begins));
-          new = λ p p_few s. absurd (omega (arith, s, leads, ends));
-        })
+    go_on u k (Free old leads) here = grind (arith, one_on u k old (from_old u k old here), from_old u k old here)
+    go_on u k (Held old q few on leads) here = grind (arith, from_old u k old here)
+    go_on u k (Stays q few begins leads) here = grind (arith, one_on u (edge_of (get_or hs q 0)), here.new q few begins)
     go_on u k (Ends q few begins leads) here = inl (inr (record { place = q; exists = few; reach = join g u (from g (edge_of (get_or hs q 0))) (get_or hs q 0) (here.new q few begins) (there q few) }))
 
     go_edge : (u k : ℕ) → k < edge_count f → Left u ⊎ IsFrom u (from f k) → Left u ⊎ IsFrom u (to f k)
@@ -126,9 +106,7 @@ module _ (g : Graph) (sound : IsGraph g) (finish : ℕ) (edge_of : ℕ → ℕ) 
 
       -- a piece that comes to the end isn't stuck
       pub stuck_no_way : (x : ℕ) → x < f.nodes → is_stuck f finish x ≡ true → Reaches f x finish → ⊥
-      stuck_no_way x node stuck r =
-          let parts = and_parts (is_on_cycle f x) (not (reaches f x finish)) stuck in
-          false≢true (sym (not-true (reaches f x finish) parts.1) ∙ (told f x finish f_sound node).1 r)
+      stuck_no_way x node stuck r = grind (arith, not-true (reaches f x finish))
 
       cycle_back : (x k : ℕ) → x < g.nodes → to f k ≡ x → (Reaches f x finish → ⊥) → IsFrom x (from f k) → IsNow k → is_on_cycle g x ≡ true
       cycle_back x k node ends no_way here (Free old leads) = is_on_cycle_from told g sound x k old (sym leads ∙ ends) (from_old x k old here)

@@ -1,15 +1,15 @@
 -- A run of steps is a run of passes, chain by chain, as far as chains are as they are said to be.
-use Rattle.std.proofs.Common.{◌≡◌, ℕ, zero, suc, ◌+◌, ◌<◌, ℤ, true, false, List, length, Contains, Option, Some, slice_get, refl, sym, ap, ◌∙◌, subst, ⊎_elim, arith}
+use Rattle.std.proofs.Common.{◌≡◌, ℕ, zero, suc, ◌+◌, ◌<◌, ℤ, true, false, List, length, Contains, Some, slice_get, refl, sym, ap, ◌∙◌, subst, ⊎_elim, arith}
 use Rattle.std.proofs.lemmas.Bool.{cases_Bool}
 use Rattle.std.proofs.lemmas.List.{length-replicate}
 use Rattle.f77_tree.specs.declared.programs.Exec.{Exec}
 use Rattle.f77_tree.specs.declared.programs.ExecKind.{ExecKind}
 use Rattle.f77_tree.specs.declared.programs.NameInfo.{NameInfo}
 use Rattle.f77_tree.specs.declared.programs.Program.{Program}
-use Rattle.f77_tree.specs.Control.{successors, successors_in, LeadsTo, SuccessorsExist}
+use Rattle.f77_tree.specs.Control.{successors, SuccessorsExist}
 use Rattle.f77_tree.specs.Execution.{Memory, Outcome, Goes, Stops, Ends, outcome}
 use Rattle.f77_tree.specs.Loops.{begun_in, incremented_in, AreLoops}
-use Rattle.f77_tree.specs.Run.{State, Mark, Running, Ended, Trapped, after, step_from, executed_at, step, source}
+use Rattle.f77_tree.specs.Run.{State, Mark, Running, Ended, Trapped, after, step_from, step, source}
 use Rattle.f77_tree.specs.Steps.{IfGoes}
 use Rattle.cfg_build.specs.Control.{is_reached}
 use Rattle.cfg_build.specs.Joined.{FlowGraph}
@@ -37,16 +37,12 @@ module _ (told : IsTold) (lead_on : LeadOn) (p : Program) (input : List ℤ) (ex
 
   inside_after : (x : State) (exec : Exec) (o : Outcome) → IsInside x → slice_get p.execs x.position ≡ Some exec → IfGoes o (λ next new text. Contains (successors exec.kind) next) → IfGoes o (λ next new text. length new.counts ≡ length x.memory.counts) → IsInside (after x exec.line o)
   inside_after x exec (Goes next new text) h found leads counts =
-      let lead : LeadsTo p.execs x.position next = subst (λ (e : Option Exec). Contains (successors_in e) next) (sym found) leads in
-      record { below = lead_below p.execs exist x.position next lead; reached = reached_next p.execs exist told some x.position next h.below h.reached lead; counts = counts ∙ h.counts }
+      grind (arith, lead_below p.execs exist x.position next, reached_next p.execs exist told some x.position next h.below h.reached)
   inside_after x exec (Stops trap) h found leads counts = record { below = h.below; reached = h.reached; counts = h.counts }
   inside_after x exec Ends h found leads counts = record { below = h.below; reached = h.reached; counts = h.counts }
 
   inside_next : (x : State) (mark : Mark) → x.mark ≡ mark → IsInside x → IsInside (step p input x)
-  inside_next x Running runs h =
-      let e = exec_at p.execs x.position h.below in
-      subst (λ (s : State). IsInside s) (sym (ap (λ mark. step_from p input x mark) runs ∙ ap (λ (o : Option Exec). executed_at p input x o) e.1))
-      (inside_after x e.0 (outcome p.names input x.memory e.0.kind) h e.1 (lead_on p.names input x.memory e.0.kind) (counts_kept p.names input x.memory e.0.kind))
+  inside_next x Running runs h = grind (arith, exec_at p.execs x.position h.below, inside_after x, counts_kept p.names input x.memory)
   inside_next x Ended is h = subst (λ (s : State). IsInside s) (sym (ap (λ mark. step_from p input x mark) is)) h
   inside_next x (Trapped trap line) is h = subst (λ (s : State). IsInside s) (sym (ap (λ mark. step_from p input x mark) is)) h
 
@@ -77,11 +73,9 @@ module _ (told : IsTold) (lead_on : LeadOn) (p : Program) (input : List ℤ) (ex
     next_agrees : (x : State) (y : PassState) (mark : Mark) → x.mark ≡ mark → IsInside x → Agrees f entry p input y x → Agrees f entry p input (go f p input (length (chain_of x.position)) y) (step p input x)
     next_agrees x y Running runs h agrees = runs_on x y h runs agrees
     next_agrees x y Ended is h agrees =
-        subst (λ (s : State). Agrees f entry p input (go f p input (length (chain_of x.position)) y) s) (sym (ap (λ mark. step_from p input x mark) is))
-        (subst (λ (a : PassState). Agrees f entry p input a x) (sym (go_ended f p input (length (chain_of x.position)) y (agrees.mark_is ∙ is))) agrees)
+        grind (arith, go f p input (length (chain_of x.position)) y, go_ended f p input (length (chain_of x.position)) y)
     next_agrees x y (Trapped trap line) is h agrees =
-        subst (λ (s : State). Agrees f entry p input (go f p input (length (chain_of x.position)) y) s) (sym (ap (λ mark. step_from p input x mark) is))
-        (subst (λ (a : PassState). Agrees f entry p input a x) (sym (go_trapped f p input (length (chain_of x.position)) y trap line (agrees.mark_is ∙ is))) agrees)
+        grind (arith, go f p input (length (chain_of x.position)) y, go_trapped f p input (length (chain_of x.position)) y trap line)
 
     -- how many passes make so many steps
     abbrev pub passes_in : ℕ → ℕ
@@ -91,7 +85,4 @@ module _ (told : IsTold) (lead_on : LeadOn) (p : Program) (input : List ℤ) (ex
     pub all_agree : (y : PassState) → Agrees f entry p input y (source p input 0) → (n : ℕ) → Agrees f entry p input (go f p input (passes_in n) y) (source p input n)
     all_agree y first zero = first
     all_agree y first (suc n) =
-        let x : State = source p input n in
-        let count : ℕ = length (chain_of x.position) in
-        subst (λ (a : PassState). Agrees f entry p input a (step p input x)) (sym (go_more f p input (passes_in n) count y))
-        (next_agrees x (go f p input (passes_in n) y) x.mark refl (inside n) (all_agree y first n))
+        grind (arith, go_more f p input (passes_in n), next_agrees, go f p input (passes_in n) y, inside n, all_agree y first n)

@@ -1,19 +1,16 @@
 -- The executables of which acts and branches are parts.
-use Rattle.std.proofs.Common.{◌≡◌, ℕ, ◌<◌, ◌≤◌, true, List, ◌∷◌, [], ◌++◌, length, map, refl, sym, ap, subst, ◌∙◌, inl, inr, ⊎_elim}
+use Rattle.std.proofs.Common.{◌≡◌, ℕ, ◌<◌, ◌≤◌, true, List, length, sym, ap, subst, ◌∙◌, ⊎_elim}
 use Rattle.std.specs.Prelude.{Bool, Some, slice_get}
 use Rattle.std.proofs.lemmas.Bool.{cases_lt}
 use Rattle.f77_tree.specs.declared.programs.Exec.{Exec}
 use Rattle.f77_tree.specs.declared.programs.ExecKind.{ExecKind}
-use Rattle.f77_tree.specs.declared.programs.ExecKind.TheVariants.{Assign, Print, Pass, Test as Testing, Sign, Pick, DoStart, DoNext, End}
 use Rattle.f77_tree.specs.declared.programs.NameInfo.{NameInfo}
-use Rattle.f77_tree.specs.Loops.{do_start}
 use Rattle.f77_tree.specs.WellFormed.{AreExecs}
 use Rattle.cfg_build.specs.declared.parts.Part.{Part}
-use Rattle.cfg_build.specs.declared.parts.Target.TheVariants.{First, Test}
 use Rattle.cfg_build.specs.declared.pieces.Piece.{Piece}
 use Rattle.cfg_build.specs.declared.pieces.PieceKind.{PieceKind}
 use Rattle.cfg_build.specs.declared.pieces.PieceKind.TheVariants as piece
-use Rattle.cfg_build.specs.Parts.{part, parts, parts_of, start_part, end_part}
+use Rattle.cfg_build.specs.Parts.{parts, parts_of, start_part, end_part}
 use Rattle.cfg_build.specs.Joined.{is_joined, rows, joined, finish}
 use Rattle.cfg_build.specs.Flow.{flow, piece_at}
 use Rattle.cfg_build.specs.Runs.{is_act, is_branch, IsPartOf}
@@ -27,6 +24,7 @@ use Rattle.cfg_build.proofs.PieceKinds.{pieces_of, piece_of_part, join_kind}
 use Rattle.cfg_build.proofs.PieceNumbers.{part_at, own_piece, first_piece, IsPieceOf, piece_of}
 use Rattle.cfg_build.proofs.ReachedNodes.{IsTold}
 use Rattle.cfg_build.proofs.Shaped.{has_holds}
+use Rattle.std.proofs.Common.{arith}
 
 -- which executables an act runs, and a branch
 abbrev fits_of : PieceKind → ExecKind → Bool
@@ -43,24 +41,7 @@ fit_of : (k : ℕ) (kind : ExecKind) (p q : Part) → q ≡ p → IsFit k kind q
 fit_of k kind p q same fit = subst (λ (x : Part). IsFit k kind x) same fit
 
 part_fits : (execs : List Exec) (k line : ℕ) (kind : ExecKind) (p : Part) → Member (parts_of execs k line kind) p → IsFit k kind p
-part_fits execs k line (Assign target value next) p (inl same) = fit_of k (Assign target value next) p (part (First k) piece.Act line k (First next ∷ [])) same (record { number = refl; fits = refl })
-part_fits execs k line (Print items next) p (inl same) = fit_of k (Print items next) p (part (First k) piece.Act line k (First next ∷ [])) same (record { number = refl; fits = refl })
-part_fits execs k line (Pass next) p (inl same) = fit_of k (Pass next) p (part (First k) piece.Pass line k (First next ∷ [])) same (record { number = refl; fits = refl })
-part_fits execs k line (Testing c if_true if_false) p (inl same) = fit_of k (Testing c if_true if_false) p (part (First k) piece.Branch line k (First if_true ∷ First if_false ∷ [])) same (record { number = refl; fits = refl })
-part_fits execs k line (Sign value neg zero' pos) p (inl same) = fit_of k (Sign value neg zero' pos) p (part (First k) piece.Branch line k (First neg ∷ First zero' ∷ First pos ∷ [])) same (record { number = refl; fits = refl })
-part_fits execs k line (Pick value targets o) p (inl same) = fit_of k (Pick value targets o) p (part (First k) piece.Branch line k (map First (targets ++ o ∷ []))) same (record { number = refl; fits = refl })
-part_fits execs k line (DoStart loop_no var first last step body exit) p (inl same) = fit_of k (DoStart loop_no var first last step body exit) p (part (First k) piece.Act line k (Test k ∷ [])) same (record { number = refl; fits = refl })
-part_fits execs k line (DoStart loop_no var first last step body exit) p (inr (inl same)) = fit_of k (DoStart loop_no var first last step body exit) p (part (Test k) piece.Branch line k (First body ∷ First exit ∷ [])) same (record { number = refl; fits = refl })
-part_fits execs k line (DoStart loop_no var first last step body exit) p (inr (inr none)) = absurd none
-part_fits execs k line (DoNext loop_no var body exit) p (inl same) = fit_of k (DoNext loop_no var body exit) p (part (First k) piece.Act line k (Test (do_start execs loop_no) ∷ [])) same (record { number = refl; fits = refl })
-part_fits execs k line (Assign target value next) p (inr none) = absurd none
-part_fits execs k line (Print items next) p (inr none) = absurd none
-part_fits execs k line (Pass next) p (inr none) = absurd none
-part_fits execs k line (Testing c if_true if_false) p (inr none) = absurd none
-part_fits execs k line (Sign value neg zero' pos) p (inr none) = absurd none
-part_fits execs k line (Pick value targets o) p (inr none) = absurd none
-part_fits execs k line (DoNext loop_no var body exit) p (inr none) = absurd none
-part_fits execs k line End p none = absurd none
+part_fits execs k line h p none = grind (arith, fit_of)
 
 -- what a part is told to be a part of
 record HasExec (execs : List Exec) (x : Piece) : Type 0 where
@@ -103,11 +84,7 @@ module _ (told : IsTold) (met : IsMet) (names : List NameInfo) (execs : List Exe
       holds = has_holds told met names execs loops well
 
   pub act_runs : (node : ℕ) → node < (flow execs).graph.nodes → kind_at (flow execs) node ≡ piece.Act → IsPartOf (flow execs) execs node is_act
-  act_runs node below is =
-      let has = piece_exec node piece.Act below is (λ e. cc) (λ e. cc) (λ e. cc) (λ e. cc) in
-      record { exec = has.exec; found = has.found; fitting = sym (ap (λ k. fits_of k has.exec.kind) is) ∙ has.fits }
+  act_runs node below is = grind (arith, piece_exec node piece.Act below is)
 
   pub branch_runs : (node : ℕ) → node < (flow execs).graph.nodes → kind_at (flow execs) node ≡ piece.Branch → IsPartOf (flow execs) execs node is_branch
-  branch_runs node below is =
-      let has = piece_exec node piece.Branch below is (λ e. cc) (λ e. cc) (λ e. cc) (λ e. cc) in
-      record { exec = has.exec; found = has.found; fitting = sym (ap (λ k. fits_of k has.exec.kind) is) ∙ has.fits }
+  branch_runs node below is = grind (arith, piece_exec node piece.Branch below is)

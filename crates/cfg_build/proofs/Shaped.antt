@@ -1,5 +1,5 @@
 -- The flow graph has its shape.
-use Rattle.std.proofs.Common.{◌≡◌, ◌≢◌, ℕ, suc, ◌+◌, ◌<◌, ◌≤◌, true, false, ◌==◌, List, [], length, get_or, refl, sym, ap, ◌∙◌, ⊎_elim, arith}
+use Rattle.std.proofs.Common.{◌≡◌, ◌≢◌, ℕ, suc, ◌+◌, ◌<◌, ◌≤◌, true, false, List, [], length, get_or, refl, sym, ap, ◌∙◌, ⊎_elim, arith}
 use Rattle.std.proofs.lemmas.Bool.{cases_lt, eq-eqb, ne_eqb, false≢true}
 use Rattle.closed_walks.specs.Graph.{Graph, edge_count, from, to}
 use Rattle.f77_tree.specs.declared.programs.Exec.{Exec}
@@ -7,7 +7,7 @@ use Rattle.f77_tree.specs.declared.programs.NameInfo.{NameInfo}
 use Rattle.f77_tree.specs.WellFormed.{AreExecs}
 use Rattle.cfg_build.specs.declared.pieces.Piece.{Piece}
 use Rattle.cfg_build.specs.declared.pieces.PieceKind.{PieceKind}
-use Rattle.cfg_build.specs.declared.pieces.PieceKind.TheVariants.{Start, Join, Hold, End}
+use Rattle.cfg_build.specs.declared.pieces.PieceKind.TheVariants.{Start, Hold, End}
 use Rattle.cfg_build.specs.Parts.{parts}
 use Rattle.cfg_build.specs.Joined.{rows, finish, joined}
 use Rattle.cfg_build.specs.Holds.{is_join}
@@ -24,35 +24,28 @@ use Rattle.list_laws.proofs.Counts.{bit, bit_false, count_unique}
 use Rattle.cfg_build.proofs.FanCounts.{comes_to, leaves_from}
 use Rattle.cfg_build.proofs.ReachedPieces.{joined_sound, finish_below, some_rows, leaves_piece}
 use Rattle.cfg_build.proofs.JoinedDegrees.{one_comes}
-use Rattle.cfg_build.proofs.OutDegrees.{IsPiece, Starts, Ends, Between, is_between, class_of, out_degree_is}
+use Rattle.cfg_build.proofs.OutDegrees.{IsPiece, is_between, class_of, out_degree_is}
 use Rattle.cfg_build.proofs.Lowest.{IsMet}
 use Rattle.cfg_build.proofs.HeldEdges.{edge_for}
 use Rattle.cfg_build.proofs.HoldDegrees.{HasHolds, none_yet, all_more}
 use Rattle.cfg_build.proofs.Holding.{IsHolding}
 use Rattle.cfg_build.proofs.Strong.{holding, held_edges, zero_from}
+use Rattle.std.proofs.lemmas.Grind.{elements}
 
 -- ---- one edge
 
 pub one_to : (g : Graph) (node a b : ℕ) → in_degree g node ≡ 1 → a < edge_count g → b < edge_count g → to g a ≡ node → to g b ≡ node → a ≡ b
 unfolding to
-one_to g node a b one first second a_to b_to =
-    count_unique (comes_to node) g.edges a b (0, 0) (omega (arith, one)) first second (eq-eqb (to g a) node a_to) (eq-eqb (to g b) node b_to)
+one_to g node a b one first second a_to b_to = grind (arith, elements, count_unique, comes_to, eq-eqb)
 
 one_from : (g : Graph) (node a b : ℕ) → out_degree g node ≡ 1 → a < edge_count g → b < edge_count g → from g a ≡ node → from g b ≡ node → a ≡ b
 unfolding from
-one_from g node a b one first second a_from b_from =
-    count_unique (leaves_from node) g.edges a b (0, 0) (omega (arith, one)) first second (eq-eqb (from g a) node a_from) (eq-eqb (from g b) node b_from)
+one_from g node a b one first second a_from b_from = grind (arith, elements, count_unique, leaves_from, eq-eqb)
 
 -- ---- kinds
 
 not_join_of : (kind : PieceKind) → takes_one kind ≡ true → is_join kind ≡ false
-not_join_of Start h = refl
-not_join_of PieceKind.Act h = refl
-not_join_of PieceKind.Pass h = refl
-not_join_of PieceKind.Branch h = refl
-not_join_of Join h = absurd (false≢true h)
-not_join_of Hold h = refl
-not_join_of End h = refl
+not_join_of h h2 = grind arith
 
 module _ (told : IsTold) (met : IsMet) (names : List NameInfo) (execs : List Exec) (loops : ℕ) (well : AreExecs names execs loops) where
   abbrev g : Graph
@@ -85,45 +78,29 @@ module _ (told : IsTold) (met : IsMet) (names : List NameInfo) (execs : List Exe
   -- ---- kinds at nodes
 
   start_then : (x : ℕ) → IsPiece execs x → (piece_at (pieces_of (parts execs)) x).kind ≡ Start → x ≡ 0
-  start_then x (Starts zero_at other kind out) is = zero_at
-  start_then x (Ends at other kind out) is = absurd cc
-  start_then x (Between not_start not_end k kind plain out) is = absurd (false≢true (ap is_between (sym is ∙ kind) ∙ plain))
+  start_then x h is = grind (arith, is_between)
 
   start_at : (x : ℕ) → IsPiece execs x → x ≡ 0 → (piece_at (pieces_of (parts execs)) x).kind ≡ Start
-  start_at x (Starts zero_at other kind out) is = kind
-  start_at x (Ends at other kind out) is = absurd (other is)
-  start_at x (Between not_start not_end k kind plain out) is = absurd (not_start is)
+  start_at x h is = grind arith
 
   end_then : (x : ℕ) → IsPiece execs x → (piece_at (pieces_of (parts execs)) x).kind ≡ End → x ≡ finish execs
-  end_then x (Starts zero_at other kind out) is = absurd cc
-  end_then x (Ends at other kind out) is = at
-  end_then x (Between not_start not_end k kind plain out) is = absurd (false≢true (ap is_between (sym is ∙ kind) ∙ plain))
+  end_then x h is = grind (arith, is_between)
 
   end_at : (x : ℕ) → IsPiece execs x → x ≡ finish execs → (piece_at (pieces_of (parts execs)) x).kind ≡ End
-  end_at x (Starts zero_at other kind out) is = absurd (other is)
-  end_at x (Ends at other kind out) is = kind
-  end_at x (Between not_start not_end k kind plain out) is = absurd (not_end is)
+  end_at x h is = grind arith
 
   no_hold : (x : ℕ) → IsPiece execs x → (piece_at (pieces_of (parts execs)) x).kind ≡ Hold → ⊥
-  no_hold x (Starts zero_at other kind out) is = cc
-  no_hold x (Ends at other kind out) is = cc
-  no_hold x (Between not_start not_end k kind plain out) is = false≢true (ap is_between (sym is ∙ kind) ∙ plain)
+  no_hold x h is = grind (arith, is_between)
 
   one_out : (x : ℕ) → IsPiece execs x → leaves_one (piece_at (pieces_of (parts execs)) x).kind ≡ true → out_degree g x ≡ 1
-  one_out x (Starts zero_at other kind out) one = out
-  one_out x (Ends at other kind out) one = out
-  one_out x (Between not_start not_end k kind plain out) one = out (sym (ap leaves_one kind) ∙ one)
+  one_out x h one = grind arith
 
   takes_not_end : (x : ℕ) → IsPiece execs x → takes_one (piece_at (pieces_of (parts execs)) x).kind ≡ true → x ≢ finish execs
-  takes_not_end x (Starts zero_at other kind out) one = other
-  takes_not_end x (Ends at other kind out) one = absurd (false≢true (sym (ap takes_one kind) ∙ one))
-  takes_not_end x (Between not_start not_end k kind plain out) one = not_end
+  takes_not_end x h one = grind arith
 
   start_not_end : 0 ≢ finish execs
-  start_not_end is = contrary (piece_at (pieces_of (parts execs)) 0).kind (start_at 0 (class 0 (some_rows told names execs loops well)) refl) (end_at 0 (class 0 (some_rows told names execs loops well)) is)
-    where
-      contrary : (k : PieceKind) → k ≡ Start → k ≡ End → ⊥
-      contrary k a b = cc
+  start_not_end is =
+      grind (arith, pieces_of (parts execs), start_at 0 (class 0 (some_rows told names execs loops well)), class 0 (some_rows told names execs loops well), some_rows told names execs loops well, end_at 0 (class 0 (some_rows told names execs loops well)) is)
 
   -- ---- degrees in the joined graph
 
@@ -143,10 +120,7 @@ module _ (told : IsTold) (met : IsMet) (names : List NameInfo) (execs : List Exe
     begins : from g e ≡ 0
 
   one_head : length (heads_at (parts execs) 0) ≡ 1
-  one_head =
-      let e : out_degree g 0 ≡ bit (end == 0) + length (heads_at (parts execs) 0) = out_degree_is (parts execs) end 0 in
-      let b : bit (end == 0) ≡ 0 = bit_false (end == 0) (ne_eqb end 0 (λ (h : end ≡ 0). start_not_end (sym h))) in
-      omega (arith, e, b, out_of_start)
+  one_head = grind (arith, bit, heads_at (parts execs), out_degree_is (parts execs), bit_false, ne_eqb, start_not_end, out_of_start)
 
   edge_one : IsFirst 1
   edge_one =

@@ -1,13 +1,12 @@
 -- A pass that comes to a piece that is made to run an executable begins the step of that executable.
-use Rattle.std.proofs.Common.{◌≡◌, ℕ, suc, ◌+◌, ◌<◌, ◌≤◌, ℤ, true, false, List, [], ◌∷◌, ◌++◌, length, Some, slice_get, slice_index, refl, sym, ap, ◌∙◌, subst, ⊎_elim, arith}
+use Rattle.std.proofs.Common.{◌≡◌, ℕ, suc, ◌+◌, ◌<◌, ◌≤◌, ℤ, true, false, List, [], ◌∷◌, ◌++◌, length, Some, slice_get, slice_index, sym, ap, ◌∙◌, subst, ⊎_elim, arith}
 use Rattle.std.proofs.Math.Seq.{get_or-append_seam}
 use Rattle.std.proofs.lemmas.Bool.{cases_Bool, cases_lt, false≢true}
 use Rattle.closed_walks.specs.Graph.{to}
 use Rattle.f77_tree.specs.declared.programs.Exec.{Exec}
 use Rattle.f77_tree.specs.declared.programs.ExecKind.{ExecKind}
-use Rattle.f77_tree.specs.declared.programs.ExecKind.TheVariants.{Assign, Print, Pass, Test, Sign, Pick, DoStart, DoNext, End}
 use Rattle.f77_tree.specs.declared.programs.Program.{Program}
-use Rattle.f77_tree.specs.Loops.{Loop, begun, begun_in, begun_at, incremented_in}
+use Rattle.f77_tree.specs.Loops.{Loop, begun}
 use Rattle.f77_tree.specs.Run.{State, Running, source}
 use Rattle.f77_tree.specs.WellFormed.{AreExecs}
 use Rattle.cfg_build.specs.Control.{is_reached}
@@ -22,22 +21,14 @@ use Rattle.cfg_build.specs.Steps.{own_place, own_node, ComesTo, IsWithinStep, Li
 use Rattle.cfg_build.proofs.ControlGraph.{exec_at}
 use Rattle.cfg_build.proofs.ReachedNodes.{IsTold}
 use Rattle.cfg_build.proofs.Lowest.{IsMet}
-use Rattle.cfg_build.proofs.ChainsFound.{IsTested, tested_by, chain_found}
+use Rattle.cfg_build.proofs.ChainsFound.{tested_by, chain_found}
 use Rattle.cfg_build.proofs.ChainSteps.{two_last}
 use Rattle.cfg_build.proofs.RunPasses.{LeadOn, IsInside}
 use Rattle.cfg_build.proofs.OwnPieces.{first_runs, prefix_passes, route_leads, IsOwn, own_piece_of, none_past, IsPastAct, past_act}
 use Rattle.cfg_build.proofs.PassesLie.{in_program, within_step, lies}
 
 begun_acts : (kind : ExecKind) (loop : Loop) → begun kind ≡ Some loop → first_kind kind ≡ piece.Act
-begun_acts (DoStart loop_no var first last step body exit) loop is = refl
-begun_acts (Assign target value next) loop is = absurd cc
-begun_acts (Print items next) loop is = absurd cc
-begun_acts (Pass next) loop is = absurd cc
-begun_acts (Test c a b) loop is = absurd cc
-begun_acts (Sign e a b c) loop is = absurd cc
-begun_acts (Pick e targets other) loop is = absurd cc
-begun_acts (DoNext loop_no var body exit) loop is = absurd cc
-begun_acts End loop is = absurd cc
+begun_acts h loop is = grind arith
 
 not_branch : (kind : PieceKind) → kind ≡ piece.Act → kind ≡ piece.Branch → ⊥
 not_branch kind act branch = cc
@@ -56,10 +47,7 @@ module _ (told : IsTold) (met : IsMet) (p : Program) (well : AreExecs p.names p.
     -- the test of a DO is made for its DO, and isn't the first piece of that
     tests_none : has_test own.kind ≡ true → (node : ℕ) → IsMade (flow p.execs) p.execs node (last_kind own.kind) (owner p.execs j own.kind) → IsOwnFor node exec k → ⊥
     tests_none two node test made =
-        let t : IsTested p.execs j own.kind = tested_by told met p.names p.execs p.loops well j own.kind reached (λ loop begins. ap (λ e. begun_in e) here ∙ begins) (λ loop increments. ap (λ e. incremented_in e) here ∙ increments) two in
-        let same : owner p.execs j own.kind ≡ k = sym test.exec_is ∙ made.exec_is in
-        let begins : begun exec.kind ≡ Some t.loop = sym (ap (λ e. begun_in e) found) ∙ ap (λ n. begun_at p.execs n) (sym same) ∙ t.begins in
-        not_branch (first_kind exec.kind) (begun_acts exec.kind t.loop begins) (sym made.kind_is ∙ test.kind_is ∙ two_last own.kind two)
+        grind (arith, tested_by told met p.names p.execs p.loops well j own.kind reached, not_branch (first_kind exec.kind), begun_acts exec.kind, two_last own.kind two)
 
     past_none : (i : ℕ) → own_place p.execs j < i → i < length (chain p.execs j) → IsOwnFor (slice_index (chain p.execs j) i) exec k → ⊥
     past_none i past exists made =

@@ -41,9 +41,7 @@ module _ (told : IsTold) (met : IsMet) (names : List NameInfo) (execs : List Exe
 
   pub held_edges : (x : ℕ) → Member (held execs) x → IsHoldEdge (row_graph (parts execs) (finish execs)) x (edge_for told names execs loops well x)
   held_edges x m =
-      let r = Member-filtered (is_held g end) (range_with_len 0 g.nodes) x m in
-      let within = Member-in_range 0 g.nodes x r.0 in
-      hold_edge told names execs loops well x (omega (arith, within.1)) r.1
+      grind (arith, Member-filtered (is_held g end) (range_with_len 0 g.nodes) x m, Member-in_range 0 g.nodes x, hold_edge told names execs loops well x)
 
   pub holds : AreHeld (row_graph (parts execs) (finish execs)) (finish execs) (joined execs) (flow execs) (held execs)
   holds =

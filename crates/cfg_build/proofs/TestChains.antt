@@ -1,6 +1,5 @@
 -- The chain of a DO that begins or is incremented: an act, and the test.
 use Rattle.std.proofs.Common.{◌≡◌, ◌≢◌, ℕ, suc, ◌+◌, ◌-◌, ◌≤◌, true, false, List, [], ◌∷◌, ◌++◌, length, get_or, map, Some, slice_get, refl, sym, ap, ◌∙◌, subst, ⊎_elim, arith}
-use Rattle.std.proofs.lemmas.Bool.{false≢true}
 use Rattle.closed_walks.specs.Graph.{to}
 use Rattle.f77_tree.specs.declared.programs.Exec.{Exec}
 use Rattle.f77_tree.specs.declared.programs.ExecKind.{ExecKind}
@@ -15,7 +14,7 @@ use Rattle.cfg_build.specs.Parts.{parts, line_in}
 use Rattle.cfg_build.specs.Joined.{number}
 use Rattle.cfg_build.specs.Flow.{flow, piece_at}
 use Rattle.cfg_build.specs.Passes.{out, kind_in}
-use Rattle.cfg_build.specs.Chains.{entry, has_test, goes_on, goes_on_from, following, chain}
+use Rattle.cfg_build.specs.Chains.{entry, has_test, goes_on, following, chain}
 use Rattle.cfg_build.specs.Routes.{is_hold, holds_in, IsRoute, IsMade, owner, IsTwoParts}
 use Rattle.list_laws.proofs.Counts.{count-append}
 use Rattle.list_laws.specs.Member.{Member}
@@ -64,9 +63,7 @@ module _ (told : IsTold) (met : IsMet) (names : List NameInfo) (execs : List Exe
     b = placed told met names execs loops well test are.test_in
 
     differ : a.place ≢ b.place
-    differ same =
-        let parts_same : act ≡ test = sym a.is ∙ ap (λ n. part_at ps n) same ∙ b.is in
-        false≢true (sym (ap (λ kind. goes_on_from kind true) (ap (λ (p : Part). p.piece.kind) parts_same ∙ are.tests)) ∙ ap (λ kind. goes_on_from kind true) are.acts)
+    differ same = grind (arith, part_at ps)
 
     r : IsPrefix told met names execs loops well a.place
     r = prefix_of told met names execs loops well a.place a.exists

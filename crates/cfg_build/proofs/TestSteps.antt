@@ -1,8 +1,7 @@
 -- The step of a DO that begins or is incremented is its chain: an act, and the test.
-use Rattle.std.proofs.Common.{◌≡◌, ℕ, suc, ◌+◌, ℤ, Bool, true, false, cond, if◌then◌else◌, nat_lt, List, [], ◌∷◌, ◌++◌, length, Some, Result, Ok, slice_get, slice_index, refl, sym, ap, ◌∙◌, subst, append-nil, arith}
+use Rattle.std.proofs.Common.{◌≡◌, ℕ, suc, ◌+◌, ℤ, Bool, true, false, cond, if◌then◌else◌, nat_lt, List, [], ◌∷◌, ◌++◌, length, Some, Ok, slice_get, slice_index, refl, sym, ap, subst, append-nil, arith}
 use Rattle.std.proofs.lemmas.List.{length-append}
 use Rattle.closed_walks.specs.Graph.{to}
-use Rattle.op_table.specs.declared.Trap.{Trap}
 use Rattle.f77_tree.specs.declared.programs.Exec.{Exec}
 use Rattle.f77_tree.specs.declared.programs.Program.{Program}
 use Rattle.f77_tree.specs.Execution.{Memory, Outcome, Goes, Stops, Ends, outcome}
@@ -10,7 +9,7 @@ use Rattle.f77_tree.specs.Run.{State, Running, Trapped, after, step}
 use Rattle.cfg_build.specs.declared.pieces.PieceKind.TheVariants as piece
 use Rattle.cfg_build.specs.Joined.{FlowGraph}
 use Rattle.cfg_build.specs.Flow.{piece_at}
-use Rattle.cfg_build.specs.Passes.{out, Passed, Along, acted, choice, branched, pass_of, kind_in, PassState, after_pass}
+use Rattle.cfg_build.specs.Passes.{out, Along, acted, choice, pass_of, kind_in, PassState, after_pass}
 use Rattle.cfg_build.specs.Routes.{IsRoute, IsTwoParts}
 use Rattle.cfg_build.proofs.PassSteps.{pass_at, go, go_more, go_trapped, IsAt, passed_is, along_edge, along_route}
 use Rattle.cfg_build.proofs.PassOutcomes.{Tested}
@@ -26,9 +25,7 @@ pub record IsTest (f : FlowGraph) (entry : ℕ → ℕ) (p : Program) (node loop
 module _ (f : FlowGraph) (entry : ℕ → ℕ) (p : Program) (input : List ℤ) (loop_no body exit : ℕ) where
   module _ (test : ℕ) (tests : IsTest f entry p test loop_no body exit) where
     test_pass : (m : Memory) → pass_at f p input test m ≡ Along (out f.graph test (if nat_lt 0 (slice_index m.counts loop_no) then 0 else 1)) m []
-    test_pass m =
-        ap (λ kind. pass_of p input m (out f.graph test) kind (kind_in (slice_get p.execs (piece_at f.pieces test).exec))) tests.branches
-        ∙ ap (λ (r : Result ℕ Trap). branched m (out f.graph test) r) (tests.chooses m)
+    test_pass m = grind arith
 
     test_leads : (b : Bool) → to f.graph (out f.graph test (cond b 0 1)) ≡ entry (cond b body exit)
     test_leads true = tests.leads
@@ -36,16 +33,7 @@ module _ (f : FlowGraph) (entry : ℕ → ℕ) (p : Program) (input : List ℤ) 
 
     tested : (z : PassState) (m : Memory) (written : List ℕ) (x : State) → IsAt f p input z m written test → x.mark ≡ Running → x.memory ≡ m → x.out ≡ written → x.position ≡ (if nat_lt 0 (slice_index m.counts loop_no) then body else exit) → Agrees f entry p input (go f p input 1 z) x
     tested z m written x at runs memory_is out_is next =
-        let b : Bool = nat_lt 0 (slice_index m.counts loop_no) in
-        let line : ℕ = (piece_at f.pieces test).line in
-        let passed : go f p input 1 z ≡ after_pass z line (Along (out f.graph test (cond b 0 1)) m []) =
-        passed_is f p input z m written test at ∙ ap (λ (q : Passed). after_pass z line q) (test_pass m) in
-        subst (λ (a : PassState). Agrees f entry p input a x) (sym passed) (record {
-          memory_is = sym memory_is;
-          out_is = append-nil z.out ∙ at.out_is ∙ sym out_is;
-          mark_is = at.runs ∙ sym runs;
-          enters = λ h. test_leads b ∙ ap entry (sym next);
-        })
+        grind (arith, slice_index m.counts loop_no, go, passed_is f p input z m written test, test_pass m, append-nil z.out, test_leads)
 
     module _ (act : ℕ) (middle : List ℕ) (on : IsRoute f (to f.graph (out f.graph act 0)) middle test) where
       -- what follows the act
@@ -68,22 +56,4 @@ module _ (f : FlowGraph) (entry : ℕ → ℕ) (p : Program) (input : List ℤ) 
   -- the step of such a DO
   pub two_parts : (x : State) (exec : Exec) (found : slice_get p.execs x.position ≡ Some exec) (x_runs : x.mark ≡ Running) (y : PassState) (agrees : Agrees f entry p input y x) (pieces : List ℕ) (c : IsTwoParts f entry p.execs x.position exec.kind pieces) → ((m : Memory) → pass_of p input m (out f.graph c.act) piece.Act exec.kind ≡ acted (out f.graph c.act 0) (outcome p.names input m exec.kind)) → Tested loop_no body exit (outcome p.names input x.memory exec.kind) → IsTest f entry p c.test loop_no body exit → Agrees f entry p input (go f p input (length pieces) y) (step p input x)
   two_parts x exec found x_runs y agrees pieces c acts tells tests =
-      let z : PassState = go f p input (length c.prefix) y in
-      let at : IsAt f p input z x.memory x.out c.act = along_route f p input c.prefix y x.memory x.out (entry x.position) c.act (begins f entry p input x exec found x_runs y agrees pieces) c.route in
-      let rest : List ℕ = c.middle ++ c.test ∷ [] in
-      let cut : length pieces ≡ length (c.prefix ++ c.act ∷ rest) = ap (λ (xs : List ℕ). length xs) c.are in
-      let first : length (c.prefix ++ c.act ∷ rest) ≡ length c.prefix + length (c.act ∷ rest) = length-append c.prefix (c.act ∷ rest) in
-      let second : length rest ≡ length c.middle + length (c.test ∷ []) = length-append c.middle (c.test ∷ []) in
-      let count : length pieces ≡ suc (length c.prefix) + (length c.middle + 1) = omega (arith, cut, first, second) in
-      let line : ℕ = (piece_at f.pieces c.act).line in
-      let o : Outcome = outcome p.names input x.memory exec.kind in
-      let acted_is : go f p input (suc (length c.prefix)) y ≡ after_pass z line (acted (out f.graph c.act 0) o) =
-      passed_is f p input z x.memory x.out c.act at
-      ∙ ap (λ (q : Passed). after_pass z line q) (made_pass f entry p input c.act piece.Act x.position exec x.memory c.acts found ∙ acts x.memory) in
-      let passed : go f p input (length pieces) y ≡ go f p input (length c.middle + 1) (after_pass z line (acted (out f.graph c.act 0) o)) =
-      ap (λ n. go f p input n y) count
-      ∙ go_more f p input (suc (length c.prefix)) (length c.middle + 1) y
-      ∙ ap (λ (a : PassState). go f p input (length c.middle + 1) a) acted_is in
-      subst (λ (a : PassState). Agrees f entry p input a (step p input x)) (sym passed)
-      (subst (λ (s : State). Agrees f entry p input (go f p input (length c.middle + 1) (after_pass z line (acted (out f.graph c.act 0) o))) s) (sym (step_is f entry p input x exec found x_runs))
-      (after_act c.test tests c.act c.middle c.on x z exec.line line o tells x_runs at (made_line f entry p input c.act piece.Act x.position exec c.acts found)))
+      grind (arith, go f p input (length c.prefix) y, along_route f p input c.prefix y x.memory x.out (entry x.position) c.act (begins f entry p input x exec found x_runs y agrees pieces) c.route, begins f entry p input x exec found x_runs y agrees pieces, length-append c.prefix, length-append c.middle (c.test ∷ []), go, passed_is f p input, made_pass f entry p input c.act piece.Act x.position exec x.memory c.acts found, go f p input (length c.middle + 1), go f p input, go_more f p input (suc (length c.prefix)) (length c.middle + 1) y, step_is f entry p input x exec found x_runs, after_act c.test tests c.act c.middle c.on x, made_line f entry p input c.act piece.Act x.position exec c.acts found)

@@ -1,5 +1,5 @@
 -- No two pieces of which one leads only to the other are both held.
-use Rattle.std.proofs.Common.{◌≡◌, ◌≢◌, ℕ, zero, suc, ◌+◌, ◌<◌, ◌≤◌, ◌⊎◌, List, [], ◌∷◌, length, get_or, refl, sym, ap, ◌∙◌, subst, ⊎_elim, arith}
+use Rattle.std.proofs.Common.{◌≡◌, ◌≢◌, ℕ, zero, suc, ◌+◌, ◌<◌, ◌≤◌, ◌⊎◌, List, [], ◌∷◌, length, sym, ◌∙◌, subst, ⊎_elim, arith}
 use Rattle.std.proofs.lemmas.Bool.{cases_order}
 use Rattle.closed_walks.specs.Graph.{Graph, IsGraph, edge_count, from, to}
 use Rattle.closed_walks.specs.Walk.{Walk}
@@ -8,7 +8,7 @@ use Rattle.cfg_build.specs.Parts.{start_part}
 use Rattle.cfg_build.specs.Joined.{width}
 use Rattle.cfg_build.proofs.Places.{begins_before}
 use Rattle.cfg_build.proofs.ReachedNodes.{IsTold, Reaches, stay, along_last, by_walk}
-use Rattle.cfg_build.proofs.JoinedGraph.{row_graph, heads_at, edge_zero, IsRowEdge, row_edge}
+use Rattle.cfg_build.proofs.JoinedGraph.{row_graph, heads_at, edge_zero, row_edge}
 use Rattle.cfg_build.proofs.Lowest.{IsOnCycle}
 use Rattle.cfg_build.proofs.PieceNumbers.{part_at, first_piece, own_piece, joins, width_is}
 
@@ -19,9 +19,7 @@ LeadsOnlyTo g u v = (e : ℕ) → e < edge_count g → from g e ≡ u → to g e
 module _ (told : IsTold) (g : Graph) (sound : IsGraph g) (x : ℕ) (cycle : IsOnCycle told g sound x) where
   round : (u v : ℕ) (w : List ℕ) → LeadsOnlyTo g u v → u ≡ x → Walk g x w (from g cycle.edge) → Reaches g v x
   round u v [] only is leads = stay g v x (sym (only cycle.edge cycle.exists (sym leads ∙ sym is)) ∙ cycle.ends)
-  round u v (e ∷ w) only is leads =
-      let on : to g e ≡ v = only e leads.0 (leads.1 ∙ sym is) in
-      along_last g v (from g cycle.edge) x (by_walk g v (from g cycle.edge) w (subst (λ n. Walk g n w (from g cycle.edge)) on leads.2)) (record { number = cycle.edge; exists = cycle.exists; begins = refl; ends = cycle.ends })
+  round u v (e ∷ w) only is leads = grind (arith, along_last g v (from g cycle.edge) x, by_walk g v (from g cycle.edge) w)
 
   forced_walk : (u v : ℕ) (w : List ℕ) → LeadsOnlyTo g u v → Walk g u w x → Reaches g v x
   forced_walk u v [] only leads = round u v cycle.returns.walk only leads cycle.returns.leads
@@ -34,13 +32,7 @@ module _ (told : IsTold) (g : Graph) (sound : IsGraph g) (x : ℕ) (cycle : IsOn
 module _ (ps : List Part) (end : ℕ) where
   pub only_head : (u v : ℕ) → u ≢ end → heads_at ps u ≡ v ∷ [] → LeadsOnlyTo (row_graph ps end) u v
   only_head u v other heads zero edge begins = absurd (other (sym begins ∙ (edge_zero ps end).0))
-  only_head u v other heads (suc e) edge begins =
-      let r : IsRowEdge ps end (suc e) = row_edge ps end e edge in
-      let is : r.piece ≡ u = sym r.begins ∙ begins in
-      let same : heads_at ps r.piece ≡ v ∷ [] = ap (λ n. heads_at ps n) is ∙ heads in
-      let one : length (heads_at ps r.piece) ≡ 1 = ap (λ (xs : List ℕ). length xs) same in
-      let first : r.nth ≡ 0 = omega (arith, r.within, one) in
-      r.ends ∙ ap (λ n. get_or (heads_at ps r.piece) n 0) first ∙ ap (λ (xs : List ℕ). get_or xs 0 0) same
+  only_head u v other heads (suc e) edge begins = grind (arith, row_edge ps end e edge, heads_at, heads_at ps)
 
 -- ---- pieces of parts
 
@@ -48,12 +40,7 @@ abbrev pub IsOf : List Part → ℕ → ℕ → Type 0
 IsOf ps j x = (x ≡ first_piece ps j) ⊎ (x ≡ own_piece ps j)
 
 of_within : (ps : List Part) (j x : ℕ) → IsOf ps j x → (first_piece ps j ≤ x) × (x < first_piece ps j + width ps (part_at ps j))
-of_within ps j x of =
-    let wide : width ps (part_at ps j) ≡ 1 + joins ps (part_at ps j) = width_is ps (part_at ps j) in
-    ⊎_elim
-    (λ (h : x ≡ first_piece ps j). (omega (arith, h), omega (arith, h, wide)))
-    (λ (h : x ≡ own_piece ps j). (omega (arith, h), omega (arith, h, wide)))
-    of
+of_within ps j x of = grind (arith, part_at, joins, width_is)
 
 pub parts_share_none : (ps : List Part) (i j x : ℕ) → i < length ps → j < length ps → i ≢ j → IsOf ps i x → IsOf ps j x → ⊥
 parts_share_none ps i j x some other differ of_i of_j =

@@ -1,6 +1,6 @@
 -- An edge that leaves a piece other than a join leads to what each edge enters first.
-use Rattle.std.proofs.Common.{◌≡◌, ◌≢◌, ℕ, ◌+◌, ◌<◌, Bool, true, false, List, length, get_or, sym, ap, ◌∙◌, subst, ⊎_elim}
-use Rattle.std.proofs.lemmas.Bool.{cases_Bool, cond-true, cond-false, false≢true}
+use Rattle.std.proofs.Common.{◌≡◌, ◌≢◌, ℕ, ◌+◌, ◌<◌, true, false, List, length, get_or, sym, ap, ◌∙◌, subst, ⊎_elim}
+use Rattle.std.proofs.lemmas.Bool.{cases_Bool, cond-true, cond-false}
 use Rattle.closed_walks.specs.Graph.{Graph, edge_count, from, to}
 use Rattle.f77_tree.specs.declared.programs.Exec.{Exec}
 use Rattle.f77_tree.specs.declared.programs.NameInfo.{NameInfo}
@@ -11,7 +11,6 @@ use Rattle.cfg_build.specs.Holds.{is_join}
 use Rattle.cfg_build.specs.Flow.{flow, held, piece_at}
 use Rattle.cfg_build.specs.Passes.{out}
 use Rattle.cfg_build.specs.Chains.{hold_of, is_after_hold}
-use Rattle.list_laws.specs.Member.{Member}
 use Rattle.list_laws.proofs.Members.{Member-at}
 use Rattle.cfg_build.proofs.ReachedNodes.{IsTold}
 use Rattle.cfg_build.proofs.JoinedGraph.{row_graph, heads_at}
@@ -19,14 +18,12 @@ use Rattle.cfg_build.proofs.PieceKinds.{pieces_of}
 use Rattle.cfg_build.proofs.OutEdges.{first_out, IsOut, out_is}
 use Rattle.cfg_build.proofs.HeldEdges.{edge_for}
 use Rattle.cfg_build.proofs.FlowEdges.{held_piece, held_edge_at, free_leads, held_leads}
-use Rattle.cfg_build.proofs.EnteredParts.{entering, IsHeldAt, held_at, IsHeldEdge, cases_held, holder, after_then, after_from, own_edge}
+use Rattle.cfg_build.proofs.EnteredParts.{entering, IsHeldAt, held_at, IsHeldEdge, holder, after_then, after_from, own_edge}
+use Rattle.std.proofs.Common.{arith}
 
 module _ (told : IsTold) (names : List NameInfo) (execs : List Exec) (loops : ℕ) (well : AreExecs names execs loops) where
   abbrev g : Graph
   g = row_graph (parts execs) (finish execs)
-
-  abbrev joins : ℕ → Bool
-  joins x = is_join (piece_at (pieces_of (parts execs)) x).kind
 
   module _ (x i : ℕ) (old : x < length (rows (parts execs))) (other : x ≢ finish execs) (within : i < length (heads_at (parts execs) x)) where
     abbrev k : ℕ
@@ -49,16 +46,7 @@ module _ (told : IsTold) (names : List NameInfo) (execs : List Exec) (loops : �
 
     way_held : is_join (piece_at (pieces_of (parts execs)) x).kind ≡ false → IsHeldEdge told names execs loops well k → to (flow execs).graph (out (flow execs).graph x i) ≡ entering execs y
     way_held plain e =
-        let z : ℕ = held_piece told names execs loops well e.place in
-        let leads : to (flow execs).graph (out (flow execs).graph x i) ≡ hold_of execs z = held_leads told names execs loops well x i e.place old other within e.some e.is in
-        ⊎_elim
-        (λ (h : (joins z ≡ true) × (from g k ≡ z)). absurd (false≢true (sym plain ∙ ap joins (sym edge_begins ∙ h.1) ∙ h.0)))
-        (λ (h : (joins z ≡ false) × (to g k ≡ z)).
-        let same : y ≡ z = sym edge_ends ∙ h.1 in
-        let m : Member (held execs) z = Member-at (held execs) e.place 0 e.some in
-        let after : is_after_hold execs y ≡ true = ap (λ n. is_after_hold execs n) same ∙ after_from told names execs loops well z m h.0 in
-        leads ∙ ap (λ n. hold_of execs n) (sym same) ∙ sym (cond-true (is_after_hold execs y) (hold_of execs y) y after))
-        (holder told names execs loops well k e)
+        grind (arith, held_piece told names execs loops well e.place, held_leads told names execs loops well x i e.place old other within e.some e.is, edge_begins, edge_ends, Member-at (held execs) e.place 0 e.some, after_from told names execs loops well, cond-true (is_after_hold execs y) (hold_of execs y) y, holder told names execs loops well)
 
     way_free : is_join (piece_at (pieces_of (parts execs)) x).kind ≡ false → ((q : ℕ) → q < length (held execs) → held_edge_at told names execs loops well q ≢ k) → to (flow execs).graph (out (flow execs).graph x i) ≡ entering execs y
     way_free plain none =
@@ -73,7 +61,4 @@ module _ (told : IsTold) (names : List NameInfo) (execs : List Exec) (loops : �
         (cases_Bool (is_after_hold execs y))
 
     pub way_enters : is_join (piece_at (pieces_of (parts execs)) x).kind ≡ false → to (flow execs).graph (out (flow execs).graph x i) ≡ entering execs (get_or (heads_at (parts execs) x) i 0)
-    way_enters plain = ⊎_elim
-        (λ (e : IsHeldEdge told names execs loops well k). way_held plain e)
-        (λ (none : (q : ℕ) → q < length (held execs) → held_edge_at told names execs loops well q ≢ k). way_free plain none)
-        (cases_held told names execs loops well k)
+    way_enters plain = search (way_held, way_free, arith)

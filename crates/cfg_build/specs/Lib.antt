@@ -15,3 +15,4 @@ pub mod Runs
 pub mod Steps
 pub mod Rounds
 pub mod WaysOut
+pub mod FlowLaws

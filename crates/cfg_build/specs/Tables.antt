@@ -1,5 +1,5 @@
 -- What is kept of each target while a program is drawn.
-use Rattle.std.specs.Prelude.{◌≡◌, ℕ, ◌+◌, ◌<◌, ◌≤◌, ◌⊎◌, ◌↔◌, filter, ◌==◌, Bool, true, false, ◌&&◌, nat_lt, nat_le, if◌then◌else◌, List, [], ◌∷◌, length, sum_by, slice_index, slice_index_or}
+use Rattle.std.specs.Prelude.{◌≡◌, ℕ, ◌+◌, ◌<◌, ◌≤◌, ◌⊎◌, ◌↔◌, filter, ◌==◌, Bool, true, false, ◌&&◌, nat_lt, nat_le, if◌then◌else◌, List, [], ◌∷◌, length, sum_by, slice_index, slice_index_or, fold, ◌++◌, map}
 use Rattle.std.specs.List.{list_any, range_with_len}
 use Rattle.closed_walks.specs.Graph.{Graph, edge_count, from, to}
 use Rattle.closed_walks.specs.Walk.{Reach, no_edge}
@@ -10,8 +10,11 @@ use Rattle.cfg_build.specs.declared.parts.Target.TheVariants.{Start, First, Test
 use Rattle.cfg_build.specs.declared.rows.Drawing.{Drawing}
 use Rattle.cfg_build.specs.declared.pieces.PieceKind.TheVariants.{Join}
 use Rattle.cfg_build.specs.Parts.{start_part}
-use Rattle.cfg_build.specs.Holds.{is_held}
-use Rattle.cfg_build.specs.Joined.{FlowGraph, Row, is_same, is_end}
+use Rattle.cfg_build.specs.Holds.{is_held, held_edge, with_hold}
+use Rattle.cfg_build.specs.Joined.{FlowGraph, Row, is_same, is_end, number}
+use Rattle.cfg_build.specs.declared.pieces.Piece.{Piece}
+use Rattle.cfg_build.specs.Flow.{piece_at}
+use Rattle.cfg_build.specs.Control.{fan}
 
 -- the number of a target; the start has 0
 abbrev pub number_in : ByTarget → Target → ℕ
@@ -94,3 +97,27 @@ pub record AreHeldBelow (g : Graph) (finish x : ℕ) (held : List ℕ) (marks : 
 -- where an edge leads to a marked node, it begins at one
 abbrev pub AreClosedBack : Graph → List Bool → Type 0
 AreClosedBack g marks = (e : ℕ) → e < edge_count g → slice_index_or marks (to g e) false ≡ true → slice_index_or marks (from g e) false ≡ true
+
+-- one more piece is held if it has to be, whatever the end
+abbrev pub HoldsNext : Graph → (x : ℕ) → (held : List ℕ) → (marks : List Bool) → (more : List ℕ) → (new : List Bool) → Type 0
+HoldsNext g x held marks more new = (finish : ℕ) → finish < g.nodes → AreHeldBelow g finish x held marks → AreHeldBelow g finish (x + 1) more new
+
+-- a hold is put before, or after, each of these pieces, on the edge that it has in the graph
+abbrev pub with_holds : (finish : ℕ) → Graph → List Piece → FlowGraph → (held : List ℕ) → FlowGraph
+with_holds finish g pieces f held = fold (λ f x. with_hold finish f (held_edge g x (piece_at pieces x).kind) (piece_at pieces x)) f held
+
+-- the table has the number of each part of the list
+abbrev pub AreNumbered : List Part → ByTarget → Type 0
+AreNumbered parts table = (j : ℕ) → j < length parts → number_in table (slice_index_or parts j start_part).own ≡ number parts (slice_index_or parts j start_part).own
+
+abbrev pub pieces_of : List Row → List Piece
+pieces_of rows = map (λ row. row.piece) rows
+
+-- the edges, with those from the pieces of these rows
+abbrev pub edges_after : Drawing → List Row → List (ℕ × ℕ)
+edges_after drawing rows = drawing.edges.items ++ fan (length drawing.pieces.items) (map (λ row. row.heads) rows)
+
+-- the rows of a part that is drawn next, by the ways to it and the numbers of those to which it leads
+abbrev pub rows_after : Drawing → (ways numbers : ByTarget) → Part → List Row
+rows_after drawing ways numbers part =
+    rows_from (length drawing.pieces.items) (is_joined_by (number_in ways part.own) part) part (map (number_in numbers) part.outs)

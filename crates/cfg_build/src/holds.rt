@@ -1,11 +1,11 @@
 //! Holds: pieces that stand where control can't come to the end.
 
-ghost use Rattle.std.specs.Prelude.{◌≡◌, ◌+◌, ◌<◌, ◌^◌, ◌&&◌, ◌==◌, ℕ, true, false, not, All, length, filter, fold, slice_index_or, IfOk, OnOk};
+ghost use Rattle.std.specs.Prelude.{◌≡◌, ◌+◌, ◌<◌, ◌^◌, ◌&&◌, ◌==◌, true, false, not, All, length, filter, slice_index_or, IfOk, OnOk};
 ghost use Rattle.std.specs.List.{range_with_len, position_or_len};
 ghost use Rattle.closed_walks.specs.Graph.{IsGraph, edge_count};
 ghost use Rattle.cfg_build.specs.Flow.{piece_at};
 ghost use Rattle.cfg_build.specs.Holds.{is_on_cycle, is_held, is_join, held_edge, with_hold};
-ghost use Rattle.cfg_build.specs.Tables.{drawn_as, is_entered_from_above, AreHeldBelow, AreClosedBack};
+ghost use Rattle.cfg_build.specs.Tables.{drawn_as, is_entered_from_above, AreClosedBack, HoldsNext, with_holds};
 
 use crate::pieces::{Piece, PieceKind};
 use crate::rows::Drawing;
@@ -43,7 +43,7 @@ fn hold_where_needed(
     requires closed { AreClosedBack g.now leaving.old.items }
     ensures nodes { length leaving.new.items ≡ length leaving.old.items }
     ensures closed { OnOk result (AreClosedBack g.now leaving.new.items) }
-    ensures held { OnOk result ((finish : ℕ) → finish < g.now.nodes → AreHeldBelow g.now finish x held.old.items leaving.old.items → AreHeldBelow g.now finish (x + 1) held.new.items leaving.new.items) }
+    ensures held { OnOk result (HoldsNext g.now x held.old.items leaving.old.items held.new.items leaving.new.items) }
 {
     reaching_is_told();
     if !stays(alloc, g, x, leaving)? {
@@ -107,7 +107,7 @@ pub(crate) fn put_holds(
     requires nodes { All (λ x. x < g.now.nodes) held.now }
     requires held { All (λ x. held_edge g.now x (piece_at drawing.old.pieces.items x).kind < edge_count g.now) held.now }
     requires few { length drawing.old.pieces.items + length held.now < 2 ^ 32 }
-    ensures { OnOk result (drawn_as drawing.new ≡ fold (λ f x. with_hold finish f (held_edge g.now x (piece_at drawing.old.pieces.items x).kind) (piece_at drawing.old.pieces.items x)) (drawn_as drawing.old) held.now) }
+    ensures { OnOk result (drawn_as drawing.new ≡ with_holds finish g.now drawing.old.pieces.items (drawn_as drawing.old) held.now) }
 {
     for x in held {
         let edge = held_edge(g, *x, drawing.pieces[*x as usize].kind);

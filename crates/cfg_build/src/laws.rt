@@ -1,19 +1,16 @@
 //! Laws on flow graphs, as contracts of functions that do nothing.
 
-ghost use Rattle.std.specs.Prelude.{◌≡◌, ◌<◌, ◌≤◌, List, ℕ, length, slice_get};
-ghost use Rattle.closed_walks.specs.Graph.{to};
+ghost use Rattle.std.specs.Prelude.{◌≤◌, List, ℕ};
 ghost use Rattle.closed_walks.specs.Region.{IsFlowGraph};
 ghost use Rattle.f77_tree.specs.declared.programs.Exec.{Exec};
 ghost use Rattle.f77_tree.specs.declared.programs.NameInfo.{NameInfo};
 ghost use Rattle.f77_tree.specs.WellFormed.{AreExecs};
 ghost use Rattle.cfg_build.specs.Joined.{finish};
 ghost use Rattle.cfg_build.specs.Flow.{flow};
-ghost use Rattle.cfg_build.specs.Passes.{outs, out, kind_in};
+ghost use Rattle.cfg_build.specs.FlowLaws.{PiecesRun, PiecesHaveWaysOut, HoldsLeadToTheEnd};
 ghost use Rattle.cfg_build.specs.Rounds.{HoldsComeInRounds};
-ghost use Rattle.cfg_build.specs.Runs.{is_act, is_branch, IsPartOf};
-ghost use Rattle.cfg_build.specs.Shape.{IsShaped, kind_at};
-ghost use Rattle.cfg_build.specs.WaysOut.{ways_out};
-ghost use Rattle.cfg_build.specs.Zones.{exec_at};
+ghost use Rattle.cfg_build.specs.Runs.{is_act, is_branch};
+ghost use Rattle.cfg_build.specs.Shape.{IsShaped};
 
 use crate::pieces::PieceKind;
 use closed_walks::{endless_ways_meet_cycles, reaching_is_told};
@@ -53,8 +50,8 @@ pub fn holds_come_in_rounds()
 
 /// Each act and each branch is a part of an executable, and of one of those that such a piece runs.
 pub fn pieces_run_executables()
-    ensures acts { (names : List NameInfo) (execs : List Exec) (loops node : ℕ) → AreExecs names execs loops → node < (flow execs).graph.nodes → kind_at (flow execs) node ≡ PieceKind.Act → IsPartOf (flow execs) execs node is_act }
-    ensures branches { (names : List NameInfo) (execs : List Exec) (loops node : ℕ) → AreExecs names execs loops → node < (flow execs).graph.nodes → kind_at (flow execs) node ≡ PieceKind.Branch → IsPartOf (flow execs) execs node is_branch }
+    ensures acts { PiecesRun PieceKind.Act is_act }
+    ensures branches { PiecesRun PieceKind.Branch is_branch }
 {
     reaching_is_told();
     endless_ways_meet_cycles();
@@ -63,8 +60,8 @@ pub fn pieces_run_executables()
 /// How many edges leave each piece: as many as its executable has successors leave a branch, two leave a hold, and one leaves any
 /// other. The second edge of a hold leads to the end.
 pub fn pieces_have_ways_out()
-    ensures count { (names : List NameInfo) (execs : List Exec) (loops node : ℕ) → AreExecs names execs loops → node < (flow execs).graph.nodes → length (outs (flow execs).graph node) ≡ ways_out (kind_at (flow execs) node) (kind_in (slice_get execs (exec_at (flow execs) node))) }
-    ensures holds { (names : List NameInfo) (execs : List Exec) (loops node : ℕ) → AreExecs names execs loops → node < (flow execs).graph.nodes → kind_at (flow execs) node ≡ PieceKind.Hold → to (flow execs).graph (out (flow execs).graph node 1) ≡ finish execs }
+    ensures count { PiecesHaveWaysOut }
+    ensures holds { HoldsLeadToTheEnd }
 {
     reaching_is_told();
     endless_ways_meet_cycles();

@@ -1,11 +1,10 @@
 //! The numbers of pieces.
 
-ghost use Rattle.std.specs.Prelude.{◌≡◌, ◌+◌, ◌<◌, ◌^◌, ℕ, false, All, length, count_by, slice_index_or, IfOk, if◌then◌else◌};
+ghost use Rattle.std.specs.Prelude.{◌≡◌, ◌+◌, ◌<◌, ◌^◌, ℕ, false, All, length, count_by, IfOk, if◌then◌else◌};
 ghost use Rattle.cfg_build.specs.declared.parts.Target.{Target};
 ghost use Rattle.cfg_build.specs.declared.parts.Target.TheVariants.{Start};
-ghost use Rattle.cfg_build.specs.Parts.{start_part};
 ghost use Rattle.cfg_build.specs.Joined.{is_same, is_end, ways_to, number, width};
-ghost use Rattle.cfg_build.specs.Tables.{number_in, IsIn, HasRoom, AreParts, is_joined_by};
+ghost use Rattle.cfg_build.specs.Tables.{number_in, IsIn, HasRoom, AreParts, is_joined_by, AreNumbered};
 
 use crate::parts::{Part, Target};
 use crate::pieces::PieceKind;
@@ -111,7 +110,7 @@ pub(crate) fn numbers(
     requires room { HasRoom execs ways.now }
     requires ways { (target : Target) → number_in ways.now target ≡ ways_to parts.now target }
     ensures room { IfOk result (λ table. HasRoom execs table) }
-    ensures numbers { IfOk result (λ table. (j : ℕ) → j < length parts.now → number_in table (slice_index_or parts.now j start_part).own ≡ number parts.now (slice_index_or parts.now j start_part).own) }
+    ensures numbers { IfOk result (λ table. AreNumbered parts.now table) }
 {
     let mut numbers = ByTarget::zeros(alloc, execs)?;
     let mut next = 0;

@@ -1,20 +1,19 @@
 //! Laws on runs through flow graphs, as contracts of functions that do nothing.
 
-ghost use Rattle.std.specs.Prelude.{◌≡◌, ◌≢◌, ◌≤◌, ◌<◌, ℕ, suc, ℤ, List, Some, true, slice_get, All};
+ghost use Rattle.std.specs.Prelude.{◌≡◌, ◌<◌, ℕ, ℤ, List, All};
 ghost use Rattle.op_table.specs.Words.{IsWord};
 ghost use Rattle.closed_walks.specs.Graph.{edge_count, from, to};
 ghost use Rattle.f77_tree.specs.declared.programs.Exec.{Exec};
 ghost use Rattle.f77_tree.specs.declared.programs.NameInfo.{NameInfo};
 ghost use Rattle.f77_tree.specs.declared.programs.Program.{Program};
-ghost use Rattle.f77_tree.specs.Execution.{Memory};
-ghost use Rattle.f77_tree.specs.Run.{Running, source};
+ghost use Rattle.f77_tree.specs.Run.{source};
 ghost use Rattle.f77_tree.specs.Steps.{HoldsWords};
 ghost use Rattle.f77_tree.specs.WellFormed.{AreExecs, IsWellFormed};
-ghost use Rattle.cfg_build.specs.Chains.{AreFew, entry, has_test, chain, passes_of, StandsAt};
-ghost use Rattle.cfg_build.specs.Control.{is_reached, IsReachedExec};
+ghost use Rattle.cfg_build.specs.Chains.{AreFew, entry, chain, passes_of, StandsAt};
+ghost use Rattle.cfg_build.specs.Control.{IsReachedExec};
 ghost use Rattle.cfg_build.specs.Flow.{flow};
-ghost use Rattle.cfg_build.specs.Passes.{IfAlong, pass, passes};
-ghost use Rattle.cfg_build.specs.Routes.{AreChain, holds_in};
+ghost use Rattle.cfg_build.specs.FlowLaws.{ReachedExecutablesHaveChains, ChainsHaveOneHold, PassesGoAlongEdges, PassesLeadOn, RunsLeaveTheStart};
+ghost use Rattle.cfg_build.specs.Passes.{passes};
 
 use closed_walks::{endless_ways_meet_cycles, reaching_is_told};
 use f77_tree::{executables_lead_to_successors, runs_hold_words};
@@ -22,9 +21,9 @@ use f77_tree::{executables_lead_to_successors, runs_hold_words};
 /// The pieces of each executable that control can come to: joins and holds that lead on, and its own pieces, the edges of
 /// whose last one lead to the successors. There are five at most, and one hold among them at most.
 pub fn chains_lead_to_successors()
-    ensures chain { (names : List NameInfo) (execs : List Exec) (loops k : ℕ) (exec : Exec) → AreExecs names execs loops → is_reached execs k ≡ true → slice_get execs k ≡ Some exec → AreChain (flow execs) (entry execs) execs k (has_test exec.kind) exec.kind (chain execs k) }
+    ensures chain { ReachedExecutablesHaveChains }
     ensures few { (names : List NameInfo) (execs : List Exec) (loops k : ℕ) (exec : Exec) → IsReachedExec names execs loops k exec → AreFew execs k }
-    ensures one_hold { (names : List NameInfo) (execs : List Exec) (loops k : ℕ) (exec : Exec) → AreExecs names execs loops → is_reached execs k ≡ true → slice_get execs k ≡ Some exec → holds_in (flow execs) (chain execs k) ≤ 1 }
+    ensures one_hold { ChainsHaveOneHold }
 
     // Edge 1 leads to the first executable.
     ensures first { (names : List NameInfo) (execs : List Exec) (loops : ℕ) → AreExecs names execs loops → to (flow execs).graph 1 ≡ entry execs 0 }
@@ -47,10 +46,10 @@ pub fn passes_follow_steps()
 /// this piece, or along none. So the passes of a run are a walk through the flow graph from its start: each edge is one of the
 /// graph, the first one leaves the start, and the next one begins where the last one ends.
 pub fn passes_are_a_walk()
-    ensures each { (p : Program) (input : List ℤ) (edge : ℕ) (m : Memory) → AreExecs p.names p.execs p.loops → edge < edge_count (flow p.execs).graph → IfAlong (pass p input edge m) (λ next new text. (next < edge_count (flow p.execs).graph) × (from (flow p.execs).graph next ≡ to (flow p.execs).graph edge)) }
+    ensures each { PassesGoAlongEdges }
     ensures start { (p : Program) (input : List ℤ) → AreExecs p.names p.execs p.loops → from (flow p.execs).graph (passes p input 0).edge ≡ 0 }
     ensures edges { (p : Program) (input : List ℤ) (n : ℕ) → AreExecs p.names p.execs p.loops → (passes p input n).edge < edge_count (flow p.execs).graph }
-    ensures leads_on { (p : Program) (input : List ℤ) (n : ℕ) → AreExecs p.names p.execs p.loops → (passes p input (suc n)).mark ≡ Running → from (flow p.execs).graph (passes p input (suc n)).edge ≡ to (flow p.execs).graph (passes p input n).edge }
+    ensures leads_on { PassesLeadOn }
 {
     reaching_is_told();
     endless_ways_meet_cycles();
@@ -65,7 +64,7 @@ pub fn passes_hold_words()
 
 /// A run never comes back to the start.
 pub fn runs_leave_the_start()
-    ensures { (p : Program) (input : List ℤ) (n : ℕ) → AreExecs p.names p.execs p.loops → (passes p input n).mark ≡ Running → to (flow p.execs).graph (passes p input n).edge ≢ 0 }
+    ensures { RunsLeaveTheStart }
 {
     reaching_is_told();
     endless_ways_meet_cycles();

@@ -1,12 +1,11 @@
 //! The pieces in the order of their numbers, and the edges in the order of theirs.
 
-ghost use Rattle.std.specs.Prelude.{◌≡◌, ◌+◌, ◌<◌, ◌^◌, ℕ, [], ◌∷◌, ◌++◌, All, length, map, slice_index_or, IfOk, OnOk};
+ghost use Rattle.std.specs.Prelude.{◌≡◌, ◌+◌, ◌<◌, ◌^◌, ◌∷◌, ◌++◌, All, length, map, IfOk, OnOk};
 ghost use Rattle.closed_walks.specs.Graph.{IsGraph};
 ghost use Rattle.cfg_build.specs.declared.parts.Target.{Target};
 ghost use Rattle.cfg_build.specs.Control.{fan};
-ghost use Rattle.cfg_build.specs.Parts.{start_part};
-ghost use Rattle.cfg_build.specs.Joined.{Row, ways_to, number, rows};
-ghost use Rattle.cfg_build.specs.Tables.{number_in, IsIn, HasRoom, room, AreParts, is_joined_by, rows_from};
+ghost use Rattle.cfg_build.specs.Joined.{Row, ways_to, rows};
+ghost use Rattle.cfg_build.specs.Tables.{number_in, IsIn, HasRoom, room, AreParts, AreNumbered, pieces_of, edges_after, rows_after};
 
 use crate::numbers::{ByTarget, is_joined};
 use crate::parts::{Part, Target};
@@ -34,8 +33,8 @@ pub(crate) fn drawn(
     requires ways_room { HasRoom (room ways.now) ways.now }
     requires ways { (target : Target) → number_in ways.now target ≡ ways_to parts.now target }
     requires numbers_room { HasRoom (room ways.now) numbers.now }
-    requires numbers { (j : ℕ) → j < length parts.now → number_in numbers.now (slice_index_or parts.now j start_part).own ≡ number parts.now (slice_index_or parts.now j start_part).own }
-    ensures pieces { IfOk result (λ d. d.pieces.items ≡ map (λ (row : Row). row.piece) (rows parts.now)) }
+    requires numbers { AreNumbered parts.now numbers.now }
+    ensures pieces { IfOk result (λ d. d.pieces.items ≡ pieces_of (rows parts.now)) }
     ensures edges { IfOk result (λ d. d.edges.items ≡ (finish, 0) ∷ fan 0 (map (λ (row : Row). row.heads) (rows parts.now))) }
 {
     let mut drawing = Drawing {
@@ -59,8 +58,8 @@ fn draw(
     requires own { IsIn ways.now part.now.own }
     requires outs { All (IsIn numbers.now) part.now.outs }
     requires few { length drawing.old.pieces.items + 2 < 2 ^ 32 }
-    ensures pieces { OnOk result (drawing.new.pieces.items ≡ drawing.old.pieces.items ++ map (λ (row : Row). row.piece) (rows_from (length drawing.old.pieces.items) (is_joined_by (number_in ways.now part.now.own) part.now) part.now (map (number_in numbers.now) part.now.outs))) }
-    ensures edges { OnOk result (drawing.new.edges.items ≡ drawing.old.edges.items ++ fan (length drawing.old.pieces.items) (map (λ (row : Row). row.heads) (rows_from (length drawing.old.pieces.items) (is_joined_by (number_in ways.now part.now.own) part.now) part.now (map (number_in numbers.now) part.now.outs)))) }
+    ensures pieces { OnOk result (drawing.new.pieces.items ≡ drawing.old.pieces.items ++ pieces_of (rows_after drawing.old ways.now numbers.now part.now)) }
+    ensures edges { OnOk result (drawing.new.edges.items ≡ edges_after drawing.old (rows_after drawing.old ways.now numbers.now part.now)) }
 {
     if is_joined(ways, part) {
         let join = drawing.pieces.len() as u32;

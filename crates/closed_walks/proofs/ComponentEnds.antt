@@ -41,8 +41,7 @@ module _ (g : Graph) (avoided : ℕ → Bool) (stages : List Stage) (marks : Lis
     settled_edge e p free is after = grind (arith, stands-below (stage_of stages (from g e)) p first is)
 
     in_last : (p q : ℕ) → first ≤ p → first ≤ q → p < length members → q < length members → Reach g avoided (get_or members p 0) (get_or members q 0)
-    in_last p q after_p after_q in_p in_q = s.reaches p q in_p in_q
-        (λ b holds below. let low = bounds_below bounds l.prefix first b l.parts s.order holds in omega (arith, low, after_q))
+    in_last p q after_p after_q in_p in_q = grind (arith, bounds_below bounds l.prefix first)
 
     -- two nodes of the segment reach one another
     cycle_of_two : (p q : ℕ) → p ≢ q → first ≤ p → first ≤ q → p < length members → q < length members → IsOnCycle g avoided (get_or members p 0)
@@ -109,8 +108,7 @@ module _ (g : Graph) (avoided : ℕ → Bool) (stages : List Stage) (marks : Lis
       at_old p low = get_or-take first members p 0 low
 
       begins_old : (e : ℕ) → Holds pending e → stage_of new_stages (from g e) ≡ stage_of stages (from g e)
-      begins_old e holds =
-          grind (arith, stays (from g e) (place (stage_of stages (from g e))), stands-below (stage_of stages (from g e)) (place (stage_of stages (from g e))) first)
+      begins_old e holds = search (stays, stands-below, arith)
 
       settled_end : (e p : ℕ) → IsFree g avoided e → stage_of new_stages (from g e) ≡ Member p → Holds pending e ⊎ (IsSettled l.prefix p (stage_of new_stages (to g e)) ⊎ Nothing e)
       settled_end e p free is =

@@ -11,6 +11,7 @@ use Rattle.closed_walks.specs.declared.component_walk.Stage.TheVariants.{New, Me
 use Rattle.closed_walks.proofs.Walks.{Holds-left, Holds-right, Holds-append}
 use Rattle.closed_walks.proofs.Reaching.{stay, join, along_last}
 use Rattle.closed_walks.proofs.Stages.{Holds-last, Holds-new, IsOrdered-append, IsOrdered-prefix, IsOrdered-across, IsOrdered-each, IsOrdered-along, bounds_below, IsBetween, cases_before, Member-same, Member-new, Member-done, New-done, stands-place, stands-below, stands-not, found_cases, member_inside, left_found, from-Holds, Holds-of_last, settled_member, settled_done, settled_along, stage_same, stage_other}
+use Rattle.std.proofs.lemmas.Grind.{elements}
 
 module _ (g : Graph) (avoided : ℕ → Bool) where
   pub Reach-ends : (a b c d : ℕ) → a ≡ c → b ≡ d → Reach g avoided c d → Reach g avoided a b
@@ -280,13 +281,11 @@ pending_below g stages pending first last w l none e holds =
     (Holds-last l.prefix last e (subst (λ xs. Holds xs e) l.parts holds))
 
 pub found_less : (g : Graph) (avoided : ℕ → Bool) (stages : List Stage) (v p : ℕ) (pending new bounds : List ℕ) → v < length stages → stage_of stages v ≡ New → Adds g avoided v pending new → left (edge_count g + 2) (set stages v (Member p)) + length new + length (bounds ++ p ∷ []) < left (edge_count g + 2) stages + length pending + length bounds
-found_less g avoided stages v p pending new bounds within fresh a =
-    grind (arith, left_found (edge_count g + 2) stages v p within fresh, length-append pending a.added, length-append bounds (p ∷ []))
+found_less g avoided stages v p pending new bounds within fresh a = grind (arith, elements, left_found)
 
 -- with no member left, a node that was found is done
 pub found_done : (g : Graph) (avoided : ℕ → Bool) (stages : List Stage) (marks : List Bool) (members bounds pending : List ℕ) → IsState g avoided Nothing stages marks members bounds pending → members ≡ [] → (v : ℕ) → IsFound (stage_of stages v) → stage_of stages v ≡ Done
-found_done g avoided stages marks members bounds pending s none v found =
-    grind (arith, s.placed v (place (stage_of stages v)), found_cases (stage_of stages v) found)
+found_done g avoided stages marks members bounds pending s none v found = grind (arith, elements, found_cases, s.placed v (place (stage_of stages v)))
 
 -- the members from a place on are nodes
 pub members_inside : (g : Graph) (avoided : ℕ → Bool) (stages : List Stage) (marks : List Bool) (members bounds pending : List ℕ) → IsState g avoided Nothing stages marks members bounds pending → (first v : ℕ) → Holds (drop first members) v → v < g.nodes

@@ -1,6 +1,6 @@
 -- Cuts of two edges: in a strongly connected graph two edges are cycle equivalent exactly where they are one.
 use Rattle.std.proofs.Common.{◌≡◌, ◌≢◌, ℕ, ◌<◌, ◌⊎◌, ◌↔◌, Bool, true, false, ◌==◌, sym, ◌∙◌, subst, ⊎_elim}
-use Rattle.std.proofs.lemmas.Bool.{cases_Bool, or_parts, or_from, ne_eqb, eqb-true, eqb-false, false≢true, false_from_ne_true}
+use Rattle.std.proofs.lemmas.Bool.{or_parts, or_from, ne_eqb, eqb-true, eqb-false, false≢true, false_from_ne_true}
 use Rattle.closed_walks.specs.Graph.{Graph, IsGraph, edge_count, from, to}
 use Rattle.closed_walks.specs.Walk.{Reach, no_edge, only, either, IsStrong, IsCycleEquivalent, IsCut}
 use Rattle.closed_walks.specs.Region.{IsPair, IsInside, IsEntered}
@@ -8,6 +8,7 @@ use Rattle.closed_walks.proofs.Reaching.{stay, join, along_last, Reach-within, I
 use Rattle.closed_walks.proofs.Decided.{reaches, Reach-reaches, reaches-Reach}
 use Rattle.closed_walks.proofs.Classes.{IsCycleEquivalent-closed, first_closed, second_closed}
 use Rattle.std.proofs.Common.{arith}
+use Rattle.std.proofs.lemmas.Grind.{elements}
 
 -- ---- sets of one edge and of two
 
@@ -94,15 +95,10 @@ module _ (g : Graph) where
     ]
 
     other_edge : (e : ℕ) → e < edge_count g → e ≢ a → e ≢ b → side a b (from g e) ≡ side a b (to g e)
-    other_edge e edge not_a not_b = ⊎_elim
-        (λ (h : side a b (from g e) ≡ true). h ∙ sym (is_inside (to g e) (along_last g (only b) e (to g a) edge (free_of b e not_b) (reached (from g e) h))))
-        (λ (h : side a b (from g e) ≡ false).
-        h ∙ sym (is_outside (to g e) (λ r. not_entered e edge not_a not_b r (λ inside. false≢true (sym h ∙ is_inside (from g e) inside)))))
-        (cases_Bool (side a b (from g e)))
+    other_edge e edge not_a not_b = grind (arith, is_inside, along_last, free_of, reached, is_outside, not_entered)
 
     pub entered : IsEntered g (side a b) a b
-    entered =
-        grind (arith, is_inside (to g a), stay g (only b) (to g a) (to g a), is_outside (from g a) no_way, is_inside (from g b) exit_reached, exit_reached, is_outside (to g b) not_past, not_past, other_edge)
+    entered = grind (arith, elements, is_inside, stay, is_outside, exit_reached, not_past, other_edge)
 
     pub IsCut-entered : IsCut g (side a b) a b
     IsCut-entered = record {

@@ -4,6 +4,7 @@ use Rattle.std.proofs.lemmas.Bool.{cases_order, or_cases, or_left, or_right, and
 use Rattle.closed_walks.specs.Graph.{Graph, IsGraph, edge_count, from, to}
 use Rattle.closed_walks.specs.Walk.{Walk, Avoids, Reach}
 use Rattle.closed_walks.proofs.Reaching.{stay, join, along}
+use Rattle.std.proofs.lemmas.Grind.{elements}
 
 module _ (g : Graph) (avoided : ℕ → Bool) where
   -- the edge leads from u to v, and isn't avoided
@@ -46,8 +47,7 @@ module _ (g : Graph) (avoided : ℕ → Bool) where
 
   over_edge : (e : ℕ) → avoided e ≡ false → leads_over e (from g e) (to g e) ≡ true
   unfolding leads_over
-  over_edge e free =
-      grind (arith, and_from ((from g e == from g e) && (to g e == to g e)) (not (avoided e)), and_from (from g e == from g e) (to g e == to g e), eq-eqb (from g e) (from g e), eq-eqb (to g e) (to g e), not_from_false (avoided e) free)
+  over_edge e free = grind (arith, elements, and_from, eq-eqb, not_from_false)
 
   steps_edge : (k e : ℕ) → e < k → avoided e ≡ false → steps_below k (from g e) (to g e) ≡ true
   steps_edge zero e below free = absurd (omega (arith, below))

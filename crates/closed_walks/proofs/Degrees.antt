@@ -1,8 +1,9 @@
 -- How many edges touch the nodes: an edge has two ends.
-use Rattle.std.proofs.Common.{◌≡◌, ◌≢◌, ℕ, zero, suc, ◌+◌, ◌*◌, ◌<◌, ◌≤◌, Bool, true, false, ◌==◌, ◌||◌, if◌then◌else◌, List, [], ◌∷◌, length, get_or, sum, refl, ap, subst, ⊎_elim, arith, length-append}
+use Rattle.std.proofs.Common.{◌≡◌, ◌≢◌, ℕ, zero, suc, ◌+◌, ◌*◌, ◌<◌, ◌≤◌, Bool, true, false, ◌==◌, ◌||◌, if◌then◌else◌, List, [], ◌∷◌, length, get_or, sum, refl, ap, subst, ⊎_elim, arith}
 use Rattle.std.proofs.lemmas.Bool.{cases_eq, eq-eqb, ne_eqb}
 use Rattle.std.proofs.lemmas.List.Sums.{sum_by-cons}
 use Rattle.closed_walks.specs.Graph.{Graph, edge_count, from, to, touches, touching_below, edges_at}
+use Rattle.std.proofs.lemmas.Grind.{elements}
 
 -- one, where the test passes
 abbrev one_if : Bool → ℕ
@@ -62,13 +63,11 @@ module _ (g : Graph) where
   degrees-more : (k first n : ℕ) → degrees (suc k) first n ≡ degrees k first n + touched k first n
   unfolding degrees touched
   degrees-more k first zero = refl
-  degrees-more k first (suc n) =
-      grind (arith, degrees-more k (suc first) n, length-append (touching_below g first k), length-if (touches g first k) k)
+  degrees-more k first (suc n) = grind (arith, elements, length-if, degrees-more k (suc first) n)
 
   degrees-few : (k first n : ℕ) → degrees k first n ≤ 2 * k
   degrees-few zero first n = let none = degrees-none first n in omega (arith, none)
-  degrees-few (suc k) first n =
-      grind (arith, degrees-few k first n, degrees-more k first n, touched-ends k first n, spots-one (from g k) first n, spots-one (to g k) first n)
+  degrees-few (suc k) first n = grind (arith, elements, degrees-more, touched-ends, spots-one, degrees-few k first n)
 
   sum-degrees : (counts : List ℕ) (first : ℕ) → ((i : ℕ) → i < length counts → get_or counts i 0 ≤ length (edges_at g (first + i))) → sum counts ≤ degrees (edge_count g) first (length counts)
   unfolding degrees edges_at

@@ -4,6 +4,7 @@ use Rattle.std.proofs.lemmas.Bool.{cases_order}
 use Rattle.std.proofs.lemmas.List.{get_or_append_left, get_or_default, get_or_past, get_or_push, set-set, set-get_or}
 use Rattle.closed_walks.specs.Graph.{Graph, IsGraph, edge_count, from, to, with_edge, touching_below, edges_at}
 use Rattle.closed_walks.specs.Digraph.{Keeps}
+use Rattle.std.proofs.lemmas.Grind.{elements}
 
 -- an edge that is there already keeps its ends
 pub from-old : (g : Graph) (u v e : ℕ) → e < edge_count g → from (with_edge g u v) e ≡ from g e
@@ -54,13 +55,11 @@ unfolding edges_at
 Keeps-new nodes edges lists few none len blank = grind (arith, lit<)
 
 pub Keeps-with : (g : Graph) (u v : ℕ) (lists new : List (List ℕ)) → Keeps g lists → u < g.nodes → v < g.nodes → edge_count g + 1 < 2 ^ 31 → length new ≡ length lists → ((node : ℕ) → get_or new node [] ≡ get_or lists node [] ++ (if (u == node) || (v == node) then edge_count g ∷ [] else [])) → Keeps (with_edge g u v) new
-Keeps-with g u v lists new kept begins ends few len more =
-    grind (arith, edge_count-with g u v, IsGraph-with g u v kept.sound begins ends, edges_at-with g u v)
+Keeps-with g u v lists new kept begins ends few len more = grind (arith, elements, edge_count-with, IsGraph-with, edges_at-with)
 
 -- an edge that was put into the one list, and not into the other, is taken out again
 pub set-undone : (lists : List (List ℕ)) (u v e : ℕ) (pushed same prefix : List ℕ) → u ≢ v → u < length lists → pushed ≡ get_or lists u [] ++ e ∷ [] → same ≡ get_or (set lists u pushed) v [] → ((xs : List ℕ) → get_or (set (set lists u pushed) v same) u [] ≡ xs ++ e ∷ [] → prefix ≡ xs) → set (set (set lists u pushed) v same) u prefix ≡ lists
-set-undone lists u v e pushed same prefix apart within push unchanged undo =
-    grind (arith, set-get_or (set lists u pushed) v, get_or-set_same lists u pushed, set-set lists u pushed prefix, set-get_or lists u)
+set-undone lists u v e pushed same prefix apart within push unchanged undo = grind (arith, elements, set-get_or, get_or-set_same, set-set)
 
 -- the ends that were read at an edge's place are its own
 pub from-read : (g : Graph) (e : ℕ) (p : ℕ × ℕ) → e < edge_count g → p ≡ get_or g.edges e p → p.0 ≡ from g e

@@ -13,8 +13,7 @@ module _ (g : Graph) where
   up_to : (u v x : ℕ) (w : List ℕ) → Walk g u w v → Holds (map (from g) w) x → Reach g no_edge u x
   up_to u v x [] leads holds = absurd holds
   up_to u v x (e ∷ w) leads (inl same) = stay g no_edge u x (sym leads.1 ∙ same)
-  up_to u v x (e ∷ w) leads (inr holds) =
-      subst (λ n. Reach g no_edge n x) leads.1 (along_first g no_edge e x leads.0 refl (up_to (to g e) v x w leads.2 holds))
+  up_to u v x (e ∷ w) leads (inr holds) = grind (arith, along_first g no_edge e x leads.0, up_to (to g e) v x w leads.2 holds)
 
   all_of : (u v : ℕ) (w : List ℕ) → Walk g u w v → Reach g no_edge u v
   all_of u v [] leads = stay g no_edge u v leads

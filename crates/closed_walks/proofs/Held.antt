@@ -65,8 +65,7 @@ filter-Holds test (x ∷ xs) e h = ⊎_elim
 
 pub AllDiffer-append : (xs ys : List ℕ) → AllDiffer xs → AllDiffer ys → ((e : ℕ) → Holds xs e → Holds ys e → ⊥) → AllDiffer (xs ++ ys)
 AllDiffer-append [] ys first second apart = second
-AllDiffer-append (x ∷ xs) ys first second apart =
-    (λ h. ⊎_elim first.0 (λ r. apart x (inl refl) r) (Holds-append xs ys x h), AllDiffer-append xs ys first.1 second (λ e h r. apart e (inr h) r))
+AllDiffer-append (x ∷ xs) ys first second apart = grind (arith, Holds-append xs ys x, AllDiffer-append xs ys first.1 second)
 
 pub AllDiffer-apart : (xs ys : List ℕ) (e : ℕ) → AllDiffer (xs ++ ys) → Holds xs e → Holds ys e → ⊥
 AllDiffer-apart [] ys e differ h r = h

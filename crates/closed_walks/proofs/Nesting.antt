@@ -130,10 +130,8 @@ module _ (g : Graph) (flow : IsFlowGraph g) where
     not_back : (x y : Bool) → j (from g a) ≡ x → j (from g b) ≡ y → x ≢ y → Reach g (only c) (to g a) (from g b) → Reach g (only c) (to g b) (from g a) → ⊥
     not_back true true at_a at_b split there back = split refl
     not_back false false at_a at_b split there back = split refl
-    not_back true false at_a at_b split there back =
-        false≢true (sym (stays_out (to g b) (from g a) back (sym (outer.others b b_edge bc bd) ∙ at_b)) ∙ at_a)
-    not_back false true at_a at_b split there back =
-        false≢true (sym (stays_out (to g a) (from g b) there (sym (outer.others a a_edge ac ad) ∙ at_a)) ∙ at_b)
+    not_back true false at_a at_b split there back = grind (arith, stays_out (to g b) (from g a) back)
+    not_back false true at_a at_b split there back = grind (arith, stays_out (to g a) (from g b) there)
 
     no_way_without : (Reach g (only b) (to g a) (from g a) → ⊥) → j (from g a) ≢ j (from g b) → Reach g (only c) (to g a) (from g a) → ⊥
     no_way_without no_way split way = ⊎_elim

@@ -1,5 +1,5 @@
 -- The edges from one node that aren't avoided.
-use Rattle.std.proofs.Common.{◌≡◌, ℕ, zero, suc, ◌+◌, ◌<◌, ◌≤◌, ◌⊎◌, Bool, List, [], ◌∷◌, ◌++◌, length, get_or, drop, ap, ◌∙◌, subst, inl, inr, ⊎_elim, arith, append_assoc, length-append}
+use Rattle.std.proofs.Common.{◌≡◌, ℕ, zero, suc, ◌+◌, ◌<◌, ◌≤◌, ◌⊎◌, Bool, List, [], ◌∷◌, ◌++◌, length, get_or, drop, arith, append_assoc, length-append}
 use Rattle.std.proofs.lemmas.List.{append-nil}
 use Rattle.closed_walks.specs.Graph.{Graph, edge_count, from, to, touching_below, edges_at}
 use Rattle.closed_walks.specs.Walk.{Holds}
@@ -29,24 +29,7 @@ module _ (g : Graph) (avoided : ℕ → Bool) (node : ℕ) where
 
   module _ (edges : List ℕ) (k : ℕ) (within : k < length edges) (old new : List ℕ) (a : IsAdding edges k old new) where
     pub IsAdding-add : IsFree g avoided (get_or edges k 0) → from g (get_or edges k 0) ≡ node → IsAdding edges (k + 1) old (new ++ get_or edges k 0 ∷ [])
-    IsAdding-add free begins =
-        let e = get_or edges k 0 in
-        record {
-          added = a.added ++ e ∷ [];
-          parts = ap (λ xs. xs ++ e ∷ []) a.parts ∙ append_assoc old a.added (e ∷ []);
-          few = omega (arith, a.few, length-append a.added (e ∷ []));
-          sound = λ f holds. ⊎_elim
-              (λ h. a.sound f h)
-              (⊎_elim (λ (same : e ≡ f). subst (λ x. IsFree g avoided x × (from g x ≡ node)) same (free, begins)) (λ none. absurd none))
-              (Holds-append a.added (e ∷ []) f holds);
-          whole = λ f free_f begins_f. ⊎_elim
-              (λ h. inl (Holds-left a.added (e ∷ []) f h))
-              (λ h. ⊎_elim
-              (λ same. inl (Holds-right a.added (e ∷ []) f (inl same)))
-              (λ later. inr later)
-              (Holds-drop edges k f within h))
-              (a.whole f free_f begins_f);
-        }
+    IsAdding-add free begins = search (append_assoc, length-append, Holds-append, Holds-left, Holds-right, Holds-drop, arith)
 
     pub IsAdding-skip : (IsFree g avoided (get_or edges k 0) → from g (get_or edges k 0) ≡ node → ⊥) → IsAdding edges (k + 1) old new
     IsAdding-skip none = grind (arith, Holds-drop)

@@ -8,6 +8,7 @@ use Rattle.closed_walks.proofs.Reaching.{join, kept}
 use Rattle.closed_walks.proofs.Decided.{Reach-reaches, reaches-Reach}
 use Rattle.closed_walks.proofs.Classes.{first_closed, equivalent_back}
 use Rattle.closed_walks.proofs.Cuts.{meets_none, meets_a, meets_b, first_of_two, last_of_two, without_first, without_second, side, class_entered}
+use Rattle.std.proofs.Common.{arith}
 
 pub IsPair-back : (g : Graph) (a b : ℕ) → IsPair g a b → IsPair g b a
 IsPair-back g a b p = record { first = p.second; second = p.first; apart = λ same. p.apart (sym same); same = equivalent_back g a b p.same }
@@ -52,10 +53,7 @@ module _ (g : Graph) (flow : IsFlowGraph g) where
 
   -- of its class edge 0 is met last
   pub last_is_zero : (c : ℕ) → IsPair g c 0 → IsBefore g c 0
-  last_is_zero c p = ⊎_elim
-      (λ h. h)
-      (λ (after : IsBefore g 0 c). absurd (first_closed g 0 c p.second (λ same. p.apart (sym same)) (equivalent_back g c 0 p.same) (subst (λ n. Reach g (only c) n (from g 0)) (sym flow.start) after)))
-      (either_before c 0 p)
+  last_is_zero c p = grind (arith, first_closed, equivalent_back, either_before)
 
   -- ---- what lies between two edges is entered by the first and left by the second
 

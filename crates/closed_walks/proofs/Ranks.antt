@@ -102,15 +102,7 @@ module _ (g : Graph) (flow : IsFlowGraph g) where
       IsRank-of.rises a b b p before p.second (side_inside g flow a b (from g b) cut.exit_tail)
 
   pub before_on : (a b c : ℕ) → IsPair g a b → IsPair g b c → IsBefore g a b → IsBefore g b c → IsBefore g a c
-  before_on a b c p q first second =
-      let up = rank_before a b p first in
-      let on = rank_before b c q second in
-      let apart : a ≢ c = λ same. not_both g flow a b p first (subst (λ x. IsBefore g b x) (sym same) second) in
-      let r : IsPair g a c = record { first = p.first; second = q.second; apart = apart; same = equivalent_on g a b c p.same q.same } in
-      ⊎_elim
-      (λ h. h)
-      (λ (after : IsBefore g c a). let down = rank_before c a (IsPair-back g a c r) after in absurd (omega (arith, up, on, down)))
-      (either_before g flow a c r)
+  before_on a b c p q first second = search (rank_before, not_both, equivalent_on, IsPair-back, either_before, arith)
 
   -- ---- lists that grow
 

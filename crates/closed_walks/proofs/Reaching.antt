@@ -89,8 +89,7 @@ module _ (g : Graph) where
   -- What holds at u, and is kept by each edge that isn't avoided, holds at each node that is reached.
   kept_on : (avoided : ℕ → Bool) (P : ℕ → Type 0) → ((e : ℕ) → e < edge_count g → avoided e ≡ false → P (from g e) → P (to g e)) → (u v : ℕ) (w : List ℕ) → Walk g u w v → Avoids avoided w → P u → P v
   kept_on avoided P keeps u v [] leads avoids here = subst P leads here
-  kept_on avoided P keeps u v (e ∷ w) leads avoids here =
-      kept_on avoided P keeps (to g e) v w leads.2 avoids.1 (keeps e leads.0 avoids.0 (subst P (sym leads.1) here))
+  kept_on avoided P keeps u v (e ∷ w) leads avoids here = grind (arith, kept_on avoided P keeps (to g e) v w leads.2 avoids.1)
 
   pub kept : (avoided : ℕ → Bool) (P : ℕ → Type 0) → ((e : ℕ) → e < edge_count g → avoided e ≡ false → P (from g e) → P (to g e)) → (u v : ℕ) → Reach g avoided u v → P u → P v
   kept avoided P keeps u v r here = kept_on avoided P keeps u v r.walk r.leads r.avoids here

@@ -8,37 +8,17 @@ use Rattle.closed_walks.proofs.Reaching.{IsMet, first_of, along_first, join}
 use Rattle.closed_walks.proofs.Classes.{equivalent_back, equivalent_on}
 use Rattle.closed_walks.proofs.Cuts.{without_first, without_second, side}
 use Rattle.closed_walks.proofs.Orders.{IsPair-back, side_inside, inside_side, pair_entered, not_both, either_before, entered_by}
+use Rattle.std.proofs.lemmas.Grind.{elements}
+use Rattle.std.proofs.Common.{arith}
 
 module _ (g : Graph) (flow : IsFlowGraph g) where
   -- ---- entries and exits
 
   pub one_exit : (a b c : ℕ) → IsRegion g a b → IsRegion g a c → b ≡ c
-  one_exit a b c r s = ⊎_elim
-      (λ h. h)
-      (λ (apart : b ≢ c).
-      let p : IsPair g b c = record { first = r.pair.second; second = s.pair.second; apart = apart; same = equivalent_on g b a c (equivalent_back g a b r.pair.same) s.pair.same } in
-      absurd (⊎_elim
-      (λ (h : IsBefore g c a). not_both g flow a c s.pair s.before h)
-      (λ (h : IsBefore g b c). ⊎_elim
-      (λ (k : IsBefore g b a). not_both g flow a b r.pair r.before k)
-      (λ (k : IsBefore g c b). not_both g flow b c p h k)
-      (s.next b r.pair.second (λ same. r.pair.apart (sym same)) apart r.pair.same))
-      (r.next c s.pair.second (λ same. s.pair.apart (sym same)) (λ same. apart (sym same)) s.pair.same)))
-      (cases_eq b c)
+  one_exit a b c r s = search (equivalent_on, equivalent_back, not_both, arith)
 
   pub one_entry : (a c b : ℕ) → IsRegion g a b → IsRegion g c b → a ≡ c
-  one_entry a c b r s = ⊎_elim
-      (λ h. h)
-      (λ (apart : a ≢ c).
-      let p : IsPair g a c = record { first = r.pair.first; second = s.pair.first; apart = apart; same = equivalent_on g a b c r.pair.same (equivalent_back g c b s.pair.same) } in
-      absurd (⊎_elim
-      (λ (h : IsBefore g c a). ⊎_elim
-      (λ (k : IsBefore g a c). not_both g flow a c p k h)
-      (λ (k : IsBefore g b a). not_both g flow a b r.pair r.before k)
-      (s.next a r.pair.first apart r.pair.apart (equivalent_back g a c p.same)))
-      (λ (h : IsBefore g b c). not_both g flow c b s.pair s.before h)
-      (r.next c s.pair.first (λ same. apart (sym same)) s.pair.apart p.same)))
-      (cases_eq a c)
+  one_entry a c b r s = grind (arith, equivalent_on, equivalent_back, not_both)
 
   -- the nodes of a region tell its entry
   pub entry_of : (a b c d : ℕ) → IsRegion g a b → IsRegion g c d → ((node : ℕ) → IsInside g a b node ↔ IsInside g c d node) → a ≡ c
@@ -59,8 +39,7 @@ module _ (g : Graph) (flow : IsFlowGraph g) where
 
   -- what lies between two edges is reached from the start without the second
   inside_reached : (a b node : ℕ) → IsPair g a b → IsBefore g a b → IsInside g a b node → Reach g (only b) 0 node
-  inside_reached a b node p before inside =
-      join g (only b) 0 (from g a) node before (along_first g (only b) a node p.first (ne_eqb a b p.apart) inside)
+  inside_reached a b node p before inside = grind (arith, elements, join, along_first, ne_eqb)
 
   apart_after : (a b c d : ℕ) → IsRegion g a b → IsRegion g c d → IsPair g a c → IsBefore g a c → (node : ℕ) → IsInside g a b node → IsInside g c d node → ⊥
   apart_after a b c d r s p before node inside other =

@@ -6,6 +6,7 @@ use Rattle.closed_walks.specs.Walk.{Walk, Avoids, Reach, no_edge, only, IsStrong
 use Rattle.closed_walks.specs.Reversed.{IsReversed}
 use Rattle.closed_walks.proofs.Reaching.{stay, join, along_last, Reach-within}
 use Rattle.closed_walks.proofs.Digraphs.{from-old, to-old, from-new, to-new, edge_count-with}
+use Rattle.std.proofs.lemmas.Grind.{elements}
 
 -- a number that is no edge is avoided by each walk
 Avoids-none : (g : Graph) (n u v : ℕ) (w : List ℕ) → n ≡ edge_count g → Walk g u w v → Avoids (only n) w
@@ -21,8 +22,7 @@ Reach-with_none g n u v r = Reach-within g (only n) no_edge (λ e free. refl) u 
 -- a way in the one graph is a way back in the other
 turned_on : (g back : Graph) → edge_count g ≡ edge_count back → ((e : ℕ) → e < edge_count back → from back e ≡ to g e) → ((e : ℕ) → e < edge_count back → to back e ≡ from g e) → (u v : ℕ) (w : List ℕ) → Walk g u w v → Reach back no_edge v u
 turned_on g back same begins ends u v [] leads = stay back no_edge v u (sym leads)
-turned_on g back same begins ends u v (e ∷ w) leads =
-    grind (arith, turned_on g back same begins ends (to g e) v w leads.2, along_last back no_edge e v)
+turned_on g back same begins ends u v (e ∷ w) leads = grind (arith, elements, along_last, turned_on g back same begins ends (to g e) v w leads.2)
 
 pub Reach-turned : (g back : Graph) → IsReversed g back → (u v : ℕ) → Reach g no_edge u v → Reach back no_edge v u
 Reach-turned g back r u v way = turned_on g back (sym r.edges) r.begins r.ends u v way.walk way.leads

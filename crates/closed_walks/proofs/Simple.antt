@@ -29,8 +29,7 @@ module _ (g : Graph) where
   -- the part of a simple walk from one of its nodes on
   part_from : (x u v : ℕ) (w : List ℕ) → Walk g x w v → IsSimple w v → Holds (map (from g) w) u → IsShortened u v w
   part_from x u v [] leads simple holds = absurd holds
-  part_from x u v (e ∷ w) leads simple (inl same) =
-      record { walk = e ∷ w; leads = (leads.0, same, leads.2); simple = simple; within = λ f h. h }
+  part_from x u v (e ∷ w) leads simple (inl same) = grind arith
   part_from x u v (e ∷ w) leads simple (inr holds) =
       grind (arith, part_from (to g e) u v w leads.2 (IsSimple-tail e w v simple) holds, IsSimple-tail e w v simple)
 

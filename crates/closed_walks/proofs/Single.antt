@@ -1,5 +1,5 @@
 -- A node other than the start with one edge to it and one from it: the two are a region, and the node is all of it.
-use Rattle.std.proofs.Common.{◌≡◌, ◌≢◌, ℕ, ◌↔◌, ◌==◌, refl, sym, ◌∙◌, subst, inl, inr, ⊎_elim}
+use Rattle.std.proofs.Common.{◌≡◌, ◌≢◌, ℕ, ◌↔◌, ◌==◌, refl, sym, ◌∙◌}
 use Rattle.std.proofs.lemmas.Bool.{ne_eqb, eq-eqb, eqb-false, false≢true}
 use Rattle.closed_walks.specs.Graph.{Graph, from, to}
 use Rattle.closed_walks.specs.Walk.{Reach, only, IsCut}
@@ -36,18 +36,10 @@ module _ (g : Graph) (flow : IsFlowGraph g) (node a b : ℕ) (p : IsPassed g nod
 
   -- an edge that is met after the one is met after the other
   after_exit : (c : ℕ) → c ≢ a → IsBefore g a c → IsBefore g b c
-  after_exit c apart way =
-      subst (λ n. Reach g (only c) 0 n) (p.in_ends ∙ sym p.out_begins) (along_last g (only c) a 0 p.entry (ne_eqb a c (λ same. apart (sym same))) way)
+  after_exit c apart way = grind (arith, along_last g (only c) a 0 p.entry, ne_eqb a c)
 
   pub passed_region : 0 ≢ node → IsRegion g a b
-  passed_region away = record {
-    pair = pair;
-    before = before away;
-    next = λ c edge not_a not_b same. ⊎_elim
-        (λ (h : IsBefore g a c). inr (after_exit c not_a h))
-        (λ (h : IsBefore g c a). inl h)
-        (either_before g flow a c (record { first = p.entry; second = edge; apart = λ h. not_a (sym h); same = same }));
-  }
+  passed_region away = search (pair, before, after_exit, either_before, arith)
 
   pub passed_inside : (n : ℕ) → IsInside g a b n ↔ (n ≡ node)
   passed_inside n = (

@@ -9,6 +9,7 @@ use Rattle.closed_walks.specs.declared.component_walk.Stage.{Stage}
 use Rattle.closed_walks.specs.declared.component_walk.Stage.TheVariants.{New, Member, Done}
 use Rattle.closed_walks.proofs.Walks.{Holds-left, Holds-right, Holds-append}
 use Rattle.closed_walks.proofs.Touching.{Holds-at}
+use Rattle.std.proofs.lemmas.Grind.{elements}
 
 -- ---- lists
 
@@ -182,12 +183,7 @@ AreDone-more nodes more on_cycle stages new_stages marks new_marks v parts in_st
 
 -- one item more of a list
 pub take_one_more : (xs : List ℕ) (k : ℕ) → k < length xs → take (k + 1) xs ≡ take k xs ++ get_or xs k 0 ∷ []
-take_one_more xs k within = rw (add-one k) (take_suc xs k within)
-  where
-    take_suc : (ys : List ℕ) (n : ℕ) → n < length ys → take (suc n) ys ≡ take n ys ++ get_or ys n 0 ∷ []
-    take_suc [] n inside = absurd (omega (arith, inside))
-    take_suc (y ∷ ys) zero inside = refl
-    take_suc (y ∷ ys) (suc n) inside = ap (λ zs. y ∷ zs) (take_suc ys n (omega (arith, inside)))
+take_one_more xs k within = grind (arith, elements, add-one)
 
 -- ---- room
 
@@ -218,11 +214,7 @@ pub record IsCut (old : List ℕ) (place : ℕ) (new : List ℕ) : Type 0 where
   pub high : (b : ℕ) → Holds cut b → place < b
 
 pub IsCut-more : (old : List ℕ) (place : ℕ) (new prefix : List ℕ) (b : ℕ) → new ≡ prefix ++ b ∷ [] → place < b → IsCut old place new → IsCut old place prefix
-IsCut-more old place new prefix b parts above c = record {
-  cut = b ∷ c.cut;
-  parts = c.parts ∙ (ap (λ xs. xs ++ c.cut) parts ∙ append_assoc prefix (b ∷ []) c.cut);
-  high = λ x holds. ⊎_elim (λ (same : b ≡ x). subst (λ y. place < y) same above) (λ h. c.high x h) holds;
-}
+IsCut-more old place new prefix b parts above c = grind (arith, elements, append_assoc)
 
 module _ (old : List ℕ) (place : ℕ) (new : List ℕ) (o : IsOrdered (λ a b. a < b) old) (c : IsCut old place new) where
   pub IsCut-order : IsOrdered (λ a b. a < b) new

@@ -4,6 +4,7 @@ use Rattle.std.proofs.lemmas.Bool.{cases_eq}
 use Rattle.closed_walks.specs.Graph.{Graph, edge_count, from, to}
 use Rattle.closed_walks.specs.Walk.{Walk, IsClosed, Holds, Avoids}
 use Rattle.std.proofs.Common.{arith}
+use Rattle.std.proofs.lemmas.Grind.{elements}
 
 -- ---- edges of a walk
 
@@ -62,19 +63,7 @@ module _ (g : Graph) where
     pub covers : (f : ℕ) → Holds w f → (e ≡ f) ⊎ Holds rest f
 
   around_parts : (base e : ℕ) (prefix back : List ℕ) → e < edge_count g → Walk g base prefix (from g e) → Walk g (to g e) back base → IsAround (prefix ++ e ∷ back) e
-  around_parts base e prefix back edge before after = record {
-    rest = back ++ prefix;
-    edge = edge;
-    leads = Walk-append (to g e) base (from g e) back prefix after before;
-    within = λ f holds. ⊎_elim
-        (λ (h : Holds back f). Holds-right prefix (e ∷ back) f (inr h))
-        (λ (h : Holds prefix f). Holds-left prefix (e ∷ back) f h)
-        (Holds-append back prefix f holds);
-    covers = λ f holds. ⊎_elim
-        (λ (h : Holds prefix f). inr (Holds-right back prefix f h))
-        (⊎_elim (λ same. inl same) (λ h. inr (Holds-left back prefix f h)))
-        (Holds-append prefix (e ∷ back) f holds);
-  }
+  around_parts base e prefix back edge before after = grind (arith, elements, Walk-append, Holds-right, Holds-left, Holds-append)
 
   pub rotate : (w : List ℕ) (e : ℕ) → IsClosed g w → Holds w e → IsAround w e
   rotate [] e closed holds = absurd holds

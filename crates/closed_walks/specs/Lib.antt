@@ -11,3 +11,4 @@ pub mod Region
 pub mod Reversed
 pub mod Search
 pub mod Walk
+pub mod ClassLaws

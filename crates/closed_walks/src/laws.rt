@@ -1,8 +1,9 @@
 //! Laws on closed walks, as contracts of functions that do nothing.
 
-ghost use Rattle.std.specs.Prelude.{◌≡◌, ◌≢◌, ◌<◌, ◌↔◌, ℕ, Bool, true, List, length, slice_index};
+ghost use Rattle.std.specs.Prelude.{◌≡◌, ◌<◌, ◌↔◌, ℕ, true, List, length, slice_index};
+ghost use Rattle.closed_walks.specs.ClassLaws.{CutsAreClasses};
 ghost use Rattle.closed_walks.specs.Graph.{Graph, IsGraph, edge_count, touches, edges_at};
-ghost use Rattle.closed_walks.specs.Walk.{IsClosed, Holds, IsOnlyOnWalksWith, Reach, no_edge, IsStrong, IsCycleEquivalent, IsCut};
+ghost use Rattle.closed_walks.specs.Walk.{IsClosed, Holds, IsOnlyOnWalksWith, Reach, no_edge, IsStrong, IsCycleEquivalent};
 ghost use Rattle.closed_walks.specs.Cycle.{AreOnSameCycles};
 ghost use Rattle.closed_walks.specs.Endless.{GoesOn, MeetsCycle};
 ghost use Rattle.closed_walks.specs.Reaching.{reaches};
@@ -16,7 +17,7 @@ pub fn walks_without()
 /// In a strongly connected graph two different edges are cycle equivalent exactly where they are a cut: of all edges they
 /// alone join nodes of some set with nodes outside it.
 pub fn cuts_are_classes()
-    ensures { (g : Graph) (a b : ℕ) → IsGraph g → IsStrong g → a < edge_count g → b < edge_count g → a ≢ b → IsCycleEquivalent g a b ↔ ((side : ℕ → Bool) × IsCut g side a b) }
+    ensures { CutsAreClasses }
 {}
 
 /// In a strongly connected graph two edges are cycle equivalent exactly where no undirected cycle has just one of them. Such a

@@ -3,15 +3,16 @@
 //!
 //! Source: Johnson, Pearson and Pingali, "The program structure tree", PLDI 1994.
 
-ghost use Rattle.std.specs.Prelude.{◌≡◌, ◌≢◌, ◌<◌, ◌↔◌, ◌⊎◌, ℕ, Bool, true, List, length, take, slice_index_or};
-ghost use Rattle.closed_walks.specs.Graph.{Graph, IsGraph, from};
-ghost use Rattle.closed_walks.specs.Walk.{Holds, Reach, only, IsStrong};
-ghost use Rattle.closed_walks.specs.Region.{IsFlowGraph, IsPair, IsBefore, IsInside, IsEntered, IsRegion, IsRank, IsGrown, IsPassed, AreApart, IsWithin};
+ghost use Rattle.std.specs.Prelude.{◌≡◌, ◌≢◌, ◌<◌, ◌↔◌, ◌⊎◌, ℕ, List, length, take, slice_index_or};
+ghost use Rattle.closed_walks.specs.ClassLaws.{SidesOfClassesAreTold};
+ghost use Rattle.closed_walks.specs.Graph.{Graph, from};
+ghost use Rattle.closed_walks.specs.Walk.{Holds, Reach, only};
+ghost use Rattle.closed_walks.specs.Region.{IsFlowGraph, IsPair, IsBefore, IsInside, IsRegion, IsRank, IsGrown, IsPassed, AreApart, IsWithin};
 
 /// In a strongly connected graph the nodes between two different edges of one class can be told by a test, and of all edges the
 /// first alone enters them and the second alone leaves them.
 pub fn sides_of_classes()
-    ensures { (g : Graph) (a b : ℕ) → IsGraph g → IsStrong g → IsPair g a b → (inside : ℕ → Bool) × ((node : ℕ) → (inside node ≡ true) ↔ IsInside g a b node) × IsEntered g inside a b }
+    ensures { SidesOfClassesAreTold }
 {}
 
 /// The edges of a class have an order: of two the one or the other is met first from the start, never both, and what is met

@@ -1,15 +1,16 @@
 -- Statements without a fault of labels, loops and blocks.
-use Rattle.std.specs.Prelude.{◌≡◌, ℕ, List, [], None, filter, length}
+use Rattle.std.specs.Prelude.{◌≡◌, ℕ, List, [], None, filter, length, Bool}
 use Rattle.f77_tree.specs.Control.{SuccessorsExist}
 use Rattle.f77_tree.specs.Loops.{AreLoops}
 use Rattle.f77_tree.specs.declared.programs.Exec.{Exec}
 use Rattle.f77_tree.specs.declared.statements.Labelled.{Labelled}
-use Rattle.layout_rules.specs.Executables.{is_do}
+use Rattle.layout_rules.specs.Executables.{is_do, executables}
 use Rattle.layout_rules.specs.Faults.{first_line}
 use Rattle.layout_rules.specs.Jumps.{jumps_into}
 use Rattle.layout_rules.specs.Labels.{is_labelled_twice, lacks_label}
 use Rattle.layout_rules.specs.Nesting.{first_unnested}
 use Rattle.layout_rules.specs.Source.{IsSource}
+use Rattle.f77_tree.specs.declared.programs.NameInfo.{NameInfo}
 
 -- A source in which each label stands once, those that are used stand where they may, loops and blocks are nested, and no jump
 -- leads into them.
@@ -27,3 +28,8 @@ loop_count stmts = length (filter (λ s. is_do s.stmt) stmts)
 pub record LeadsWithin (execs : List Exec) (count : ℕ) : Type 0 where
   pub successors : SuccessorsExist execs
   pub loops : AreLoops execs count
+
+-- control leads from each executable to others of the program, and the DOs are the loops of the executables
+abbrev pub ControlLeadsWithinPrograms : Type 0
+ControlLeadsWithinPrograms = (names : List NameInfo) (checked : Bool) (stmts : List Labelled)
+    → IsStructured stmts → LeadsWithin (executables names checked stmts) (loop_count stmts)

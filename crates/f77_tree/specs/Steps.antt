@@ -1,14 +1,15 @@
 -- What is said of steps: what an executable leaves as it is, when two memories make it do the same, and when a run stops.
-use Rattle.std.specs.Prelude.{◌≡◌, ℕ, ◌≤◌, ◌⊎◌, ℤ, List, length, Ok, slice_get, slice_index, All}
+use Rattle.std.specs.Prelude.{◌≡◌, ℕ, ◌≤◌, ◌⊎◌, ℤ, List, length, Ok, slice_get, slice_index, All, Contains}
 use Rattle.op_table.specs.Words.{IsWord}
 use Rattle.f77_tree.specs.declared.programs.ExecKind.{ExecKind}
 use Rattle.f77_tree.specs.declared.programs.ExecKind.TheVariants.{Assign, DoStart, DoNext}
 use Rattle.f77_tree.specs.declared.programs.NameInfo.{NameInfo}
 use Rattle.f77_tree.specs.declared.programs.Program.{Program}
-use Rattle.f77_tree.specs.Execution.{Memory, next_word, Outcome, Goes, Stops, Ends}
+use Rattle.f77_tree.specs.Execution.{Memory, next_word, Outcome, Goes, Stops, Ends, outcome}
 use Rattle.f77_tree.specs.Run.{Mark, StopsFirst}
 use Rattle.f77_tree.specs.Touched.{ExecMayRead, ExecReadsData, SetsCount, SetsStep, ReadsCount}
 use Rattle.f77_tree.specs.Value.{place, place_of, word_at}
+use Rattle.f77_tree.specs.Control.{successors}
 
 -- what is said of an outcome holds where it goes on
 abbrev pub IfGoes : Outcome → (ℕ → Memory → List ℕ → Type 0) → Type 0
@@ -91,3 +92,8 @@ pub record StopsWithin (p : Program) (input : List ℤ) (n : ℕ) (mark : Mark) 
   pub count : ℕ
   pub within : count ≤ n
   pub stops : StopsFirst p input count mark
+
+-- an executable that goes on goes to one of its successors
+abbrev pub ExecutablesLeadToSuccessors : Type 0
+ExecutablesLeadToSuccessors = (names : List NameInfo) (input : List ℤ) (m : Memory) (kind : ExecKind)
+    → IfGoes (outcome names input m kind) (λ next new text. Contains (successors kind) next)

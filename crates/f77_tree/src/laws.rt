@@ -1,6 +1,6 @@
 //! Laws on runs, and on what executables read and change, as contracts of functions that do nothing.
 
-ghost use Rattle.std.specs.Prelude.{◌≡◌, ◌≢◌, ◌≤◌, ◌<◌, ◌↔◌, Bool, true, false, ℕ, ◌+◌, ℤ, List, ◌++◌, All, Contains, Any, flat_map, length, Option, Some, Ok, slice_get, slice_index};
+ghost use Rattle.std.specs.Prelude.{◌≡◌, ◌≢◌, ◌≤◌, ◌<◌, ◌↔◌, Bool, true, false, ℕ, ◌+◌, ℤ, List, ◌++◌, All, Any, flat_map, length, Option, Some, Ok, slice_get, slice_index};
 ghost use Rattle.op_table.specs.declared.Trap.{Trap};
 ghost use Rattle.op_table.specs.Words.{IsWord};
 ghost use Rattle.f77_tree.specs.declared.declarations.Dim.{Dim};
@@ -12,7 +12,6 @@ ghost use Rattle.f77_tree.specs.declared.programs.Item.{Item};
 ghost use Rattle.f77_tree.specs.declared.programs.NameInfo.{NameInfo};
 ghost use Rattle.f77_tree.specs.declared.programs.Program.{Program};
 ghost use Rattle.f77_tree.specs.CanRun.{CanRun, CanExecute, IsNext};
-ghost use Rattle.f77_tree.specs.Control.{successors};
 ghost use Rattle.f77_tree.specs.Execution.{Memory, outcome};
 ghost use Rattle.f77_tree.specs.Kinds.{IsProper};
 ghost use Rattle.f77_tree.specs.Known.{known, IsInBounds, ExecMayTrap, ExecMayTrapBut};
@@ -23,7 +22,7 @@ ghost use Rattle.f77_tree.specs.Operations.{statements_of, is_increment, exec_op
 ghost use Rattle.f77_tree.specs.Places.{IsWordOf};
 ghost use Rattle.f77_tree.specs.Prefixes.{IsPrefix};
 ghost use Rattle.f77_tree.specs.Run.{Mark, Running, Ended, Trapped, out, source};
-ghost use Rattle.f77_tree.specs.Steps.{IfGoes, DoesNotTrap, IsMemoryOf, HoldsWords, KeepsRest, HasRoomFor, AgreeFor, AreAlike, Changes, StopsWithin};
+ghost use Rattle.f77_tree.specs.Steps.{IfGoes, DoesNotTrap, IsMemoryOf, HoldsWords, KeepsRest, HasRoomFor, AgreeFor, AreAlike, Changes, StopsWithin, ExecutablesLeadToSuccessors};
 ghost use Rattle.f77_tree.specs.Touched.{ExecMayChange, ExecMayRead, ExecReadsData, MayName, MayRead, ItemMayRead, ReadsData};
 ghost use Rattle.f77_tree.specs.Value.{value, place, word_at, dims_of, IsExpression, IsAccess, ArePlaced};
 ghost use Rattle.f77_tree.specs.WellFormed.{IsWellFormed};
@@ -54,7 +53,7 @@ pub fn stopped_runs_stay()
 
 /// An executable that goes on goes to one of its successors.
 pub fn executables_lead_to_successors()
-    ensures { (names : List NameInfo) (input : List ℤ) (m : Memory) (kind : ExecKind) → IfGoes (outcome names input m kind) (λ next new text. Contains (successors kind) next) }
+    ensures { ExecutablesLeadToSuccessors }
 {}
 
 /// An executable that goes on changes its target's word or its DO's variable, count and step, takes data where it reads

@@ -1,5 +1,5 @@
 -- The ready nodes in number order, and marks of them.
-use Rattle.std.proofs.Common.{◌≡◌, ◌≢◌, ◌⊎◌, inl, inr, ℕ, zero, suc, ◌+◌, ◌%◌, ◌<◌, ◌≤◌, ◌++◌, Bool, true, false, if◌then◌else◌, List, [], ◌∷◌, length, get_or, slice_index, None, refl, sym, ap, subst, ◌∙◌, ⊎_elim, length-append, append-nil, arith}
+use Rattle.std.proofs.Common.{◌≡◌, ◌≢◌, ◌⊎◌, ℕ, zero, suc, ◌+◌, ◌%◌, ◌<◌, ◌≤◌, ◌++◌, Bool, true, false, if◌then◌else◌, List, [], ◌∷◌, length, get_or, slice_index, None, refl, sym, ap, subst, ◌∙◌, ⊎_elim, length-append, append-nil, arith}
 use Rattle.std.proofs.lemmas.Bool.{cases_eq, cases_lt}
 use Rattle.std.proofs.lemmas.List.{get_or_push, get_or_append_left}
 use Rattle.std.proofs.Math.Nat.{mod-lt}
@@ -9,7 +9,7 @@ use Rattle.firing.specs.Marks.{AreMarks, DifferAt, Wakes}
 use Rattle.firing.specs.Moves.{Moves, CanFire}
 use Rattle.firing.specs.Orders.{IsOver, counted}
 use Rattle.firing.specs.Choice.{chosen, ready_below, ready_nodes}
-use Rattle.firing.specs.ReadySet.{IsMemberAt, has, rank, member_count}
+use Rattle.firing.specs.ReadySet.{IsMemberAt, rank, member_count}
 use Rattle.firing.proofs.Pulling.{are_ready}
 use Rattle.firing.proofs.RankLemmas.{rank_member}
 
@@ -34,10 +34,7 @@ record IsReadyBelow {M : Type 0} (s : Moves M) (m : M) (n k : ℕ) : Type 0 wher
 module _ {M : Type 0} (s : Moves M) (m : M) where
   -- what the last place of the list below n + 1 has
   last_place : (n i : ℕ) (ready : Bool) → s.ready m n ≡ ready → length (ready_below s m n) ≤ i → i < length (with_if (ready_below s m n) n ready) → IsReadyBelow s m (suc n) (get_or (with_if (ready_below s m n) n ready) i 0)
-  last_place n i true is le lt =
-      let count = with_count (ready_below s m n) n true in
-      let at : get_or (with_if (ready_below s m n) n true) i 0 ≡ n = get_or_push (ready_below s m n) n 0 i (omega (arith, le, lt, count)) in
-      subst (IsReadyBelow s m (suc n)) (sym at) (record { node = omega arith; ready = is })
+  last_place n i true is le lt = grind (arith, with_count (ready_below s m n) n true, get_or_push (ready_below s m n) n 0 i)
   last_place n i false is le lt = let count = with_count (ready_below s m n) n false in absurd (omega (arith, le, lt, count))
 
   place_ready : (n i : ℕ) → i < length (ready_below s m n) → IsReadyBelow s m n (get_or (ready_below s m n) i 0)
@@ -76,11 +73,7 @@ module _ {M : Type 0} (s : Moves M) (m : M) where
   module _ {marks : List Bool} (are : AreMarks s.nodes (s.ready m) marks) where
     ready_count : (n : ℕ) → n ≤ s.nodes → length (ready_below s m n) ≡ rank marks n
     ready_count zero le = refl
-    ready_count (suc n) le =
-        let step = ready_count n (omega (arith, le)) in
-        let more = with_count (ready_below s m n) n (s.ready m n) in
-        let same : counted (has marks n) ≡ counted (s.ready m n) = ap counted (are.right n (omega (arith, le))) in
-        omega (arith, step, more, same)
+    ready_count (suc n) le = grind (arith, ready_count n, with_count (ready_below s m n) n (s.ready m n))
 
     ready_place : (n k : ℕ) → n ≤ s.nodes → k < n → s.ready m k ≡ true → get_or (ready_below s m n) (rank marks k) 0 ≡ k
     ready_place zero k le lt ready = absurd (omega (arith, lt))
@@ -106,20 +99,13 @@ module _ {M : Type 0} (s : Moves M) (m : M) where
 
     -- the marked node at a place is the ready one there
     pub marked_place : (place k : ℕ) → IsMemberAt marks place k → k ≡ slice_index (ready_nodes s m) place
-    marked_place place k at =
-        let node : k < s.nodes = let inside = at.inside in let room = are.room in omega (arith, inside, room) in
-        let ready : s.ready m k ≡ true = sym (are.right k node) ∙ at.member in
-        sym (ready_place s.nodes k (omega arith) node ready) ∙ ap (λ p. get_or (ready_nodes s m) p 0) at.below
+    marked_place place k at = grind (arith, ready_place s.nodes k)
 
 -- ---- the marks after a firing
 
 module _ {M : Type 0} (sound : M → Type 0) (s : Moves M) (lawful : IsLawful sound s) (m : M) (is_sound : sound m) (k : ℕ) (can : CanFire s m k) (none : s.trap (s.fired m k) ≡ None) (woken : List ℕ) (wakes : Wakes s m k woken) where
   same_or_woken : (j : ℕ) (before now : Bool) → j < s.nodes → j ≢ k → s.ready m j ≡ before → s.ready (s.fired m k) j ≡ now → (now ≡ before) ⊎ Contains woken j
-  same_or_woken j true now node differ was is =
-      let other : CanFire s m j = record { going = can.going; node = node; ready = was } in
-      inl (sym is ∙ lawful.stays_ready m k j (are_ready sound s lawful m k j is_sound (λ e. differ (sym e)) can other))
-  same_or_woken j false true node differ was is = inr (wakes.all none j node differ was is)
-  same_or_woken j false false node differ was is = inl refl
+  same_or_woken j h now node differ was is = grind (arith, are_ready)
 
   -- the firing makes no other nodes ready or unready than those that it wakes
   pub woken_differ : DifferAt s.nodes k woken (s.ready m) (s.ready (s.fired m k))
@@ -133,13 +119,8 @@ module _ {N M : Type 0} (moves : N → Moves M) {net other : N} (same : other �
 
   -- the node at a pick's place is the one that the pick chooses
   pub pick_chosen : k ≡ chosen (moves net) m pick
-  pick_chosen =
-      at
-      ∙ ap (λ n. slice_index (ready_nodes (moves n) m) place) same
-      ∙ ap (slice_index (ready_nodes (moves net) m)) (placed ∙ ap (λ n. pick % n) count_here)
+  pick_chosen = cc
 
   pub pick_fires : count ≢ 0 → (moves net).trap m ≡ None → CanFire (moves net) m k
   pick_fires some none =
-      let all = count_here in
-      let inside : pick % length (ready_nodes (moves net) m) < length (ready_nodes (moves net) m) = mod-lt pick (omega (arith, some, all)) in
-      subst (CanFire (moves net) m) (sym pick_chosen) (place_fires (moves net) m (pick % length (ready_nodes (moves net) m)) none inside)
+      grind (arith, count_here, mod-lt pick, pick_chosen, place_fires (moves net) m (pick % length (ready_nodes (moves net) m)) none)

@@ -1,10 +1,11 @@
 -- The control after a firing, and the node that is due at its place.
-use Rattle.std.proofs.Common.{◌≡◌, ◌≢◌, ℕ, true, false, nat_eq, if◌then◌else◌, Option, Some, None, is_some, refl, sym, ap, subst, ◌∙◌, ⊎_elim}
-use Rattle.std.proofs.lemmas.Bool.{eqb-true, eq-eqb, cases_Bool}
+use Rattle.std.proofs.Common.{◌≡◌, ◌≢◌, ℕ, false, if◌then◌else◌, Option, Some, None, is_some, refl, sym, ap, ◌∙◌}
+use Rattle.std.proofs.lemmas.Bool.{eqb-true, eq-eqb}
 use Rattle.firing.specs.Control.{Course, IsInStep, KeepsStep, due_at, due_node, is_node, steered}
 use Rattle.firing.specs.Moves.{Moves, CanFire}
 use Rattle.firing.specs.Orders.{IsOver}
 use Rattle.firing.specs.SourceOrder.{IsSourceOrder}
+use Rattle.std.proofs.Common.{arith}
 
 module _ {M P : Type 0} (course : Course M P) where
   -- control moves on where the node is due
@@ -22,10 +23,7 @@ module _ {M P : Type 0} (course : Course M P) where
 module _ {M P : Type 0} (s : Moves M) (course : Course M P) (in_step : M → P → Type 0) where
   moved_by : (m : M) (p : P) (k : ℕ) (due : Option ℕ) → (due ≡ Some k → s.trap (s.fired m k) ≡ None → in_step (s.fired m k) (course.moved m p)) → IsInStep s in_step (s.fired m k) (if is_node due k then Some (course.moved m p) else None)
   moved_by m p k None fires = tt
-  moved_by m p k (Some j) fires = ⊎_elim
-      (λ (same : nat_eq j k ≡ true). subst (λ b. IsInStep s in_step (s.fired m k) (if b then Some (course.moved m p) else None)) (sym same) (fires (ap Some (eqb-true j k same))))
-      (λ (differ : nat_eq j k ≡ false). subst (λ b. IsInStep s in_step (s.fired m k) (if b then Some (course.moved m p) else None)) (sym differ) tt)
-      (cases_Bool (nat_eq j k))
+  moved_by m p k (Some j) fires = grind (arith, eqb-true)
 
 module _ {M P : Type 0} {sound : M → Type 0} {s : Moves M} {course : Course M P} {in_step : M → P → Type 0} where
   -- control stays in step, or is lost

@@ -6,44 +6,29 @@ use Rattle.std.proofs.Math.Nat.{mul-suc, mul-zero, mul-le-mul_left}
 use Rattle.firing.specs.BlockCounts.{AreCounts, CanShift, IsCounted, IsInBlock, before, shifted}
 use Rattle.firing.specs.ReadySet.{has, rank, member_count}
 use Rattle.firing.proofs.RankLemmas.{HasOneMore, rank_past, rank_slow, rank_member, rank_short, rank_before, rank_after, rank_empty, more_put, more_taken}
+use Rattle.std.proofs.lemmas.Grind.{elements}
 
 -- ---- sums of counts
 
 module _ (width : ℕ) (counts : List ℕ) (flags : List Bool) (are : AreCounts width counts flags) where
   pub before_rank : (b : ℕ) → b ≤ length counts → before counts b ≡ rank flags (width * b)
   before_rank zero le = rw mul-zero refl
-  before_rank (suc b) le =
-      let step = before_rank b (omega (arith, le)) in
-      let here = are.counted b (omega (arith, le)) in
-      let e : rank flags (width * suc b) ≡ rank flags (width * b + width) = ap (rank flags) (mul-suc width b) in
-      omega (arith, step, here, e)
+  before_rank (suc b) le = grind (arith, before_rank b, mul-suc width b)
 
   pub before_all : before counts (length counts) ≡ member_count flags
   before_all = before_rank (length counts) (omega arith) ∙ rank_past flags (width * length counts) are.covered
 
   -- no block has more members than numbers
   pub count_fits : (b : ℕ) → b < length counts → get_or counts b 0 ≤ width
-  count_fits b inside =
-      let here = are.counted b inside in
-      let slow = rank_slow flags (width * b) (width * b + width) (omega arith) in
-      omega (arith, here, slow)
+  count_fits b inside = grind (arith, rank_slow flags (width * b) (width * b + width))
 
   -- the count of a member's block
   pub count_some : (k b : ℕ) → b < length counts → has flags k ≡ true → width * b ≤ k → k < width * b + width → 0 < get_or counts b 0
-  count_some k b inside member low high =
-      let here = are.counted b inside in
-      let more = rank_member flags k (width * b) (width * b + width) member low high in
-      omega (arith, here, more)
+  count_some k b inside member low high = grind (arith, rank_member flags k (width * b) (width * b + width) member low high)
 
   -- the block of a number in the room
   pub block_inside : (k b : ℕ) → k < length flags → width * b ≤ k → b < length counts
-  block_inside k b inside low = ⊎_elim
-      (λ lt. lt)
-      (λ (past : length counts ≤ b).
-      let le : width * length counts ≤ width * b = mul-le-mul_left width past in
-      let covered = are.covered in
-      absurd (omega (arith, inside, low, le, covered)))
-      (cases_lt b (length counts))
+  block_inside k b inside low = grind (arith, elements, mul-le-mul_left)
 
 -- ---- a change of one count
 
@@ -55,10 +40,7 @@ record CountsOneMore (few many : List ℕ) (b : ℕ) : Type 0 where
 
 -- blocks before and after another one
 apart : (width a b : ℕ) → a < b → width * a + width ≤ width * b
-apart width a b lt =
-    let le : width * suc a ≤ width * b = mul-le-mul_left width (omega (arith, lt)) in
-    let e = mul-suc width a in
-    omega (arith, le, e)
+apart width a b lt = grind (arith, elements, mul-le-mul_left, mul-suc)
 
 module _ (width : ℕ) (few many : List Bool) (k b : ℕ) (more : HasOneMore few many k) (low : width * b ≤ k) (high : k < width * b + width) where
   -- what the block at a number gains
@@ -109,48 +91,25 @@ module _ (width : ℕ) (few many : List Bool) (k b : ℕ) (more : HasOneMore few
   }
 
 count_put : (counts : List ℕ) (b : ℕ) → b < length counts → CountsOneMore counts (set counts b (get_or counts b 0 + 1)) b
-count_put counts b inside = record {
-  same_length = sym (length-set counts b (get_or counts b 0 + 1));
-  is = get_or-set_same counts b (get_or counts b 0 + 1) 0 inside;
-  others = λ j differ. sym (get_or-set_other counts b j (get_or counts b 0 + 1) 0 differ);
-}
+count_put counts b inside =
+    grind (arith, length-set counts b (get_or counts b 0 + 1), get_or-set_same counts b (get_or counts b 0 + 1) 0 inside, get_or-set_other counts b)
 
 count_taken : (counts : List ℕ) (b : ℕ) → b < length counts → 0 < get_or counts b 0 → CountsOneMore (set counts b (get_or counts b 0 - 1)) counts b
-count_taken counts b inside some = record {
-  same_length = length-set counts b (get_or counts b 0 - 1);
-  is = let e = get_or-set_same counts b (get_or counts b 0 - 1) 0 inside in omega (arith, e, some);
-  others = λ j differ. get_or-set_other counts b j (get_or counts b 0 - 1) 0 differ;
-}
+count_taken counts b inside some =
+    grind (arith, length-set counts b (get_or counts b 0 - 1), get_or-set_same counts b (get_or counts b 0 - 1) 0 inside, get_or-set_other counts b)
 
 -- a flag that changes, and the count of its block with it
 pub counts_put : (width : ℕ) (counts : List ℕ) (flags : List Bool) (k b : ℕ) (ready : Bool) → AreCounts width counts flags → k < length flags → has flags k ≢ ready → width * b ≤ k → k < width * b + width → AreCounts width (set counts b (shifted (get_or counts b 0) ready)) (set flags k ready)
 counts_put width counts flags k b true are inside differ low high =
-    let lacks : has flags k ≡ false = lacking (has flags k) differ in
-    let within = block_inside width counts flags are k b inside low in
-    counts_come width flags (set flags k true) k b (more_put flags k inside lacks) low high counts (set counts b (get_or counts b 0 + 1)) (count_put counts b within) are
-  where
-    lacking : (b : Bool) → b ≢ true → b ≡ false
-    lacking true not = absurd (not refl)
-    lacking false not = refl
+    grind (arith, block_inside width counts flags are k b inside low, counts_come width flags, more_put flags k inside, count_put counts b)
 counts_put width counts flags k b false are inside differ low high =
-    let member : has flags k ≡ true = holding (has flags k) differ in
-    let within = block_inside width counts flags are k b inside low in
-    let some = count_some width counts flags are k b within member low high in
-    counts_go width (set flags k false) flags k b (more_taken flags k inside member) low high (set counts b (get_or counts b 0 - 1)) counts (count_taken counts b within some) are
-  where
-    holding : (b : Bool) → b ≢ false → b ≡ true
-    holding true not = refl
-    holding false not = absurd (not refl)
+    grind (arith, block_inside width counts flags are k b inside low, count_some width counts flags are k b, counts_go width, more_taken flags k inside, count_taken counts b)
 
 total_put : (flags : List Bool) (k : ℕ) (ready : Bool) → k < length flags → has flags k ≢ ready → member_count (set flags k ready) ≡ shifted (member_count flags) ready
 total_put flags k true inside differ =
-    let lacks : has flags k ≡ false = ⊎_elim (λ is. absurd (differ is)) (λ is. is) (cases_Bool (has flags k)) in
-    ap (rank (set flags k true)) (length-set flags k true) ∙ rank_after flags (set flags k true) k (length flags) (more_put flags k inside lacks) inside
+    grind (arith, length-set flags k true, rank_after flags (set flags k true) k (length flags), more_put flags k inside)
 total_put flags k false inside differ =
-    let member : has flags k ≡ true = ⊎_elim (λ is. is) (λ is. absurd (differ is)) (cases_Bool (has flags k)) in
-    let more = rank_after (set flags k false) flags k (length flags) (more_taken flags k inside member) inside in
-    let same : member_count (set flags k false) ≡ rank (set flags k false) (length flags) = ap (rank (set flags k false)) (length-set flags k false) in
-    omega (arith, more, same)
+    grind (arith, rank_after (set flags k false) flags k (length flags), more_taken flags k inside, length-set flags k false)
 
 -- what a number that comes needs of a count, and what one that goes does
 come_fits : (width : ℕ) (counts : List ℕ) (flags : List Bool) (k b : ℕ) → AreCounts width counts flags → k < length flags → width * b ≤ k → get_or counts b 0 ≤ width
@@ -158,24 +117,17 @@ come_fits width counts flags k b are inside low = count_fits width counts flags 
 
 go_some : (width : ℕ) (counts : List ℕ) (flags : List Bool) (k b : ℕ) (ready : Bool) → AreCounts width counts flags → k < length flags → has flags k ≢ ready → width * b ≤ k → k < width * b + width → ready ≡ false → 0 < get_or counts b 0
 go_some width counts flags k b ready are inside differ low high is =
-    let member : has flags k ≡ true = ⊎_elim (λ e. e) (λ e. absurd (differ (e ∙ sym is))) (cases_Bool (has flags k)) in
-    count_some width counts flags are k b (block_inside width counts flags are k b inside low) member low high
+    grind (arith, count_some width counts flags are k b (block_inside width counts flags are k b inside low), block_inside width counts flags are k b inside low)
 
 can_shift : (width : ℕ) (counts : List ℕ) (flags : List Bool) (k b : ℕ) (ready : Bool) → AreCounts width counts flags → k < length flags → has flags k ≢ ready → width < 2 ^ 32 - 1 → width * b ≤ k → k < width * b + width → CanShift counts b ready
-can_shift width counts flags k b ready are inside differ small low high = record {
-  inside = block_inside width counts flags are k b inside low;
-  fits = λ is. let fits = come_fits width counts flags k b are inside low in omega (arith, fits, small);
-  some = go_some width counts flags k b ready are inside differ low high;
-}
+can_shift width counts flags k b ready are inside differ small low high =
+    grind (arith, block_inside width counts flags are k b inside low, come_fits width counts flags k b are inside low, go_some width counts flags k b ready are inside differ low high)
 
 pub total_fits : (flags : List Bool) (k : ℕ) (ready : Bool) → k < length flags → has flags k ≢ ready → ready ≡ true → member_count flags < length flags
 total_fits flags k ready inside differ is = rank_short flags k (length flags) (⊎_elim (λ e. absurd (differ (e ∙ sym is))) (λ e. e) (cases_Bool (has flags k))) inside
 
 pub total_some : (flags : List Bool) (k : ℕ) (ready : Bool) → k < length flags → has flags k ≢ ready → ready ≡ false → 0 < member_count flags
-total_some flags k ready inside differ is =
-    let member : has flags k ≡ true = ⊎_elim (λ e. e) (λ e. absurd (differ (e ∙ sym is))) (cases_Bool (has flags k)) in
-    let more = rank_member flags k 0 (length flags) member (omega arith) inside in
-    omega (arith, more)
+total_some flags k ready inside differ is = grind (arith, rank_member flags k 0 (length flags))
 
 -- ---- the counts of all levels in a set of a room
 
@@ -191,15 +143,7 @@ module _ (flags : List Bool) (low mid high : List ℕ) (total room : ℕ) (are :
 
   pub all_put : (new_low new_mid new_high : List ℕ) → (1024 < room → new_low ≡ set low (k / 1024) (shifted (get_or low (k / 1024) 0) ready)) → (32768 < room → new_mid ≡ set mid (k / 32768) (shifted (get_or mid (k / 32768) 0) ready)) → (32768 < room → new_high ≡ set high (k / 1048576) (shifted (get_or high (k / 1048576) 0) ready)) → IsCounted (set flags k ready) new_low new_mid new_high (shifted total ready)
   all_put new_low new_mid new_high low_is mid_is high_is =
-      let same = length-set flags k ready in
-      let room_of : (n : ℕ) → n < length (set flags k ready) → n < room = λ n many. omega (arith, many, same, room_is) in
-      let large : (n : ℕ) → n < length (set flags k ready) → n < length flags = λ n many. omega (arith, many, same) in
-      record {
-        low_counts = λ many. subst (λ counts. AreCounts 1024 counts (set flags k ready)) (sym (low_is (room_of 1024 many))) (counts_put 1024 low flags k (k / 1024) ready (are.low_counts (large 1024 many)) inside differs (omega arith) (omega arith));
-        mid_counts = λ many. subst (λ counts. AreCounts 32768 counts (set flags k ready)) (sym (mid_is (room_of 32768 many))) (counts_put 32768 mid flags k (k / 32768) ready (are.mid_counts (large 32768 many)) inside differs (omega arith) (omega arith));
-        high_counts = λ many. subst (λ counts. AreCounts 1048576 counts (set flags k ready)) (sym (high_is (room_of 32768 many))) (counts_put 1048576 high flags k (k / 1048576) ready (are.high_counts (large 32768 many)) inside differs (omega arith) (omega arith));
-        all = ap (λ n. shifted n ready) are.all ∙ sym (total_put flags k ready inside differs);
-      }
+      grind (arith, length-set flags k ready, counts_put 1024 low flags k (k / 1024) ready, counts_put 32768 mid flags k (k / 32768) ready, counts_put 1048576 high flags k (k / 1048576) ready, total_put flags k ready inside differs)
 
 -- ---- the empty set
 
@@ -209,27 +153,17 @@ zeros (suc n) zero = refl
 zeros (suc n) (suc i) = zeros n i
 
 none_counted : (width room blocks : ℕ) → room ≤ width * blocks → AreCounts width (replicate blocks 0) (replicate room false)
-none_counted width room blocks enough = record {
-  covered = rw (length-replicate, length-replicate) enough;
-  counted = λ b inside. let first = rank_empty room (width * b) in let last = rank_empty room (width * b + width) in let none = zeros blocks b in omega (arith, first, last, none);
-}
+none_counted width room blocks enough = grind (arith, length-replicate, rank_empty room, zeros blocks)
 
 pub empty_counted : (room : ℕ) → IsCounted (replicate room false) (replicate (room / 1024 + 1) 0) (replicate (room / 32768 + 1) 0) (replicate (room / 1048576 + 1) 0) 0
-empty_counted room = record {
-  low_counts = λ many. none_counted 1024 room (room / 1024 + 1) (omega arith);
-  mid_counts = λ many. none_counted 32768 room (room / 32768 + 1) (omega arith);
-  high_counts = λ many. none_counted 1048576 room (room / 1048576 + 1) (omega arith);
-  all = sym (rank_empty room (length (replicate room false)));
-}
+empty_counted room =
+    grind (arith, none_counted 1024 room (room / 1024 + 1), none_counted 32768 room (room / 32768 + 1), none_counted 1048576 room (room / 1048576 + 1), rank_empty room (length (replicate room false)))
 
 -- ---- the search for a member, from the blocks of one width to those of a smaller one
 
 module _ (flags : List Bool) (width place b left : ℕ) (within : place < member_count flags) (block : IsInBlock flags width place b left) where
   pub block_few : width * b < length flags
-  block_few = ⊎_elim
-      (λ lt. lt)
-      (λ (past : length flags ≤ width * b). let all = rank_past flags (width * b) past in let start = block.start in absurd (omega (arith, within, all, start)))
-      (cases_lt (width * b) (length flags))
+  block_few = grind (arith, rank_past)
 
 -- where a search through the counts of smaller blocks begins
 pub record Starts (counts : List ℕ) (first left place : ℕ) : Type 0 where
@@ -259,10 +193,7 @@ module _ (width : ℕ) (counts : List ℕ) (flags : List Bool) (are : AreCounts 
   starts_first = record { inside = omega arith; same = omega arith; some = let all = before_all width counts flags are in omega (arith, all, within) }
 
   pub found : (b left : ℕ) → b < length counts → before counts b + left ≡ place → left < get_or counts b 0 → IsInBlock flags width place b left
-  found b left inside same short =
-      let rank_is = before_rank width counts flags are b (omega (arith, inside)) in
-      let next = are.counted b inside in
-      record { start = omega (arith, same, rank_is); end = omega (arith, same, rank_is, next, short) }
+  found b left inside same short = grind (arith, before_rank width counts flags are b)
 
 -- counts in a slice, and a set as its callers see it
 pub counts_of : (width : ℕ) (slice counts : List ℕ) (flags value : List Bool) → slice ≡ counts → flags ≡ value → AreCounts width counts flags → AreCounts width slice value

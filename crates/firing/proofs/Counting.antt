@@ -35,10 +35,7 @@ module _ {M : Type 0} (sound : M → Type 0) (s : Moves M) (lawful : IsLawful so
   prefix_after line a b c is p = record { more = p.more; is = sym is ∙ ap (λ bytes. line ++ bytes) p.is ∙ sym (append_assoc line a p.more) }
 
   is_serial : (k : ℕ) (n : ℕ) → counted (s.serial k) + n ≤ 0 → s.serial k ≡ false
-  is_serial k n le = ⊎_elim
-      (λ (serial : s.serial k ≡ true). let more : counted (s.serial k) ≡ 1 = ap counted serial in absurd (omega (arith, le, more)))
-      (λ (not : s.serial k ≡ false). not)
-      (cases_Bool (s.serial k))
+  is_serial k n le = grind arith
 
   -- the other order holds the first firing
   after-in : (m : M) (k : ℕ) (ks others : List ℕ) (fires : FiresIn s m k others) → WritesPrefixOf s (s.fired m k) ks fires.rest → WritesPrefixOf s m (k ∷ ks) others
@@ -47,8 +44,7 @@ module _ {M : Type 0} (sound : M → Type 0) (s : Moves M) (lawful : IsLawful so
   -- it doesn't, and the first firing isn't serial
   after-beside : (m : M) (k : ℕ) (ks others : List ℕ) → sound m → CanFire s m k → s.serial k ≡ false → FiresBeside s m k others → WritesPrefixOf s (s.fired m k) ks others → WritesPrefixOf s m (k ∷ ks) others
   after-beside m k ks others is_sound can not fires b =
-      let same : line_bytes (s.line m k) ++ written s (s.fired m k) others ≡ written s m others = ap (λ l. line_bytes l ++ written s (s.fired m k) others) (lawful.silent m k is_sound can not).line ∙ fires.same_lines in
-      record { no_trap = b.no_trap; prefix = prefix_after (line_bytes (s.line m k)) (written s (s.fired m k) ks) (written s (s.fired m k) others) (written s m others) same b.prefix }
+      grind (arith, prefix_after (line_bytes (s.line m k)) (written s (s.fired m k) ks) (written s (s.fired m k) others) (written s m others))
 
   pub writes_prefix : (m : M) (ks others : List ℕ) → sound m → IsOrder s m ks → IsOrder s m others → s.trap (after s m others) ≡ None → serial_count s ks ≤ serial_count s others → WritesPrefixOf s m ks others
   writes_prefix m [] others is_sound order other none le = record { no_trap = none_before s m others other none; prefix = record { more = written s m others; is = refl } }

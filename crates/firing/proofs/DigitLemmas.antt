@@ -1,6 +1,5 @@
 -- A number whose lowest set digits are taken away one by one.
-use Rattle.std.proofs.Common.{◌≡◌, ℕ, zero, suc, ◌+◌, ◌-◌, ◌*◌, ◌/◌, ◌%◌, ◌<◌, ◌≤◌, ◌^◌, bit_and, count_ones, sym, ap, subst, ◌∙◌, ⊎_elim, arith}
-use Rattle.std.proofs.lemmas.Bool.{cases_lt}
+use Rattle.std.proofs.Common.{◌≡◌, ℕ, zero, suc, ◌+◌, ◌-◌, ◌*◌, ◌/◌, ◌%◌, ◌<◌, ◌^◌, bit_and, count_ones, sym, ap, subst, ◌∙◌, arith}
 use Rattle.std.proofs.lemmas.Nat.{pow_pos, pow_below, mod-pow-add, mod_below, ones_cat, shr_split, shr_high, mod_low, and_block, and_mask}
 use Rattle.std.proofs.lemmas.Nat.Bits.{bit_at-zero, bit_at_cat_low, bit_at_cat_high, bit_at-trailing_zeros, same_from_bits_below}
 use Rattle.std.proofs.Math.Nat.{mod_self}
@@ -8,6 +7,7 @@ use Rattle.std.specs.Int.{bit_at, trailing_zeros, w64}
 use Rattle.std.specs.Int.Bits.{and_self}
 use Rattle.firing.specs.BlockCounts.{IsDigitAt}
 use Rattle.firing.proofs.WordLemmas.{none_set, one_set}
+use Rattle.std.proofs.lemmas.Grind.{elements}
 
 -- ---- the lowest set digit
 
@@ -17,11 +17,7 @@ module _ (rest t : ℕ) (is_set : bit_at rest t ≡ 1) (none : (i : ℕ) → i <
       (λ i lt. sym (bit_at_cat_low (rest / 2 ^ t) t (rest % 2 ^ t) i lt) ∙ ap (λ n. bit_at n i) (shr_split rest t) ∙ none i lt ∙ sym (bit_at-zero i))
 
   split : rest ≡ rest / 2 ^ suc t * 2 ^ suc t + 2 ^ t
-  split =
-      let next : 1 + t ≡ suc t = omega arith in
-      let low : rest % 2 ^ suc t ≡ 2 ^ t =
-      ap (λ n. rest % 2 ^ n) (sym next) ∙ mod-pow-add rest 1 t ∙ ap (λ n. n * 2 ^ t + rest % 2 ^ t) is_set ∙ ap (λ n. 1 * 2 ^ t + n) none_below ∙ omega arith in
-      sym (shr_split rest (suc t)) ∙ ap (λ n. rest / 2 ^ suc t * 2 ^ suc t + n) low
+  split = grind (arith, mod-pow-add rest 1 t, none_below, shr_split rest (suc t))
 
   short : 2 ^ t < 2 ^ suc t
   short = pow_below t (suc t) (omega arith)
@@ -51,11 +47,7 @@ module _ (high t : ℕ) where
 
   above : (low i : ℕ) → low < 2 ^ suc t → t < i → count_ones ((high * 2 ^ suc t + low) % 2 ^ i) ≡ count_ones (high % 2 ^ (i - suc t)) + count_ones low
   above low i small lt =
-      let n = high * 2 ^ suc t + low in
-      let e : (i - suc t) + suc t ≡ i = omega (arith, lt) in
-      let cut : n % 2 ^ i ≡ (high % 2 ^ (i - suc t)) * 2 ^ suc t + low =
-      ap (λ k. n % 2 ^ k) (sym e) ∙ mod-pow-add n (i - suc t) (suc t) ∙ ap (λ k. (k % 2 ^ (i - suc t)) * 2 ^ suc t + n % 2 ^ suc t) (shr_high high (suc t) low small) ∙ ap (λ k. (high % 2 ^ (i - suc t)) * 2 ^ suc t + k) (mod_low high (suc t) low small) in
-      ap count_ones cut ∙ ones_cat (suc t) (high % 2 ^ (i - suc t)) low small
+      grind (arith, mod-pow-add, shr_high high (suc t) low small, mod_low high (suc t) low small, count_ones, ones_cat (suc t) (high % 2 ^ (i - suc t)) low small)
 
   digit_above : (low i : ℕ) → low < 2 ^ suc t → t < i → bit_at (high * 2 ^ suc t + low) i ≡ bit_at high (i - suc t)
   digit_above low i small lt = bit_at_cat_high high (suc t) low i small (omega (arith, lt))
@@ -66,24 +58,10 @@ module _ (high t : ℕ) where
     pub below : count_ones ((high * 2 ^ suc t + 2 ^ t) % 2 ^ i) ≡ count_ones ((high * 2 ^ suc t + 0) % 2 ^ i) + 1
 
   pub loses : (i : ℕ) → bit_at (high * 2 ^ suc t + 0) i ≡ 1 → Loses i
-  loses i is_set = ⊎_elim
-      (λ (lt : t < i).
-      let wide = pow_below t (suc t) (omega arith) in
-      let none = pow_pos (suc t) in
-      record {
-        is_set = digit_above (2 ^ t) i wide lt ∙ sym (digit_above 0 i none lt) ∙ is_set;
-        below = let first = above (2 ^ t) i wide lt in let second = above 0 i none lt in let a = one in let b = none_set in omega (arith, first, second, a, b);
-      })
-      (λ (le : i ≤ t). let e : 0 ≡ 1 = sym (bit_at-zero i) ∙ sym (bit_at_cat_low high (suc t) 0 i (omega (arith, le))) ∙ is_set in absurd (omega (arith, e)))
-      (cases_lt t i)
+  loses i is_set = grind (arith, elements, pow_below, pow_pos, digit_above, above, one, none_set, bit_at-zero, bit_at_cat_low)
 
   pub loses_one : count_ones (high * 2 ^ suc t + 2 ^ t) ≡ count_ones (high * 2 ^ suc t + 0) + 1
-  loses_one =
-      let first = all_ones (2 ^ t) (pow_below t (suc t) (omega arith)) in
-      let second = all_ones 0 (pow_pos (suc t)) in
-      let a = one in
-      let b = none_set in
-      omega (arith, first, second, a, b)
+  loses_one = grind (arith, all_ones (2 ^ t), pow_below t (suc t), all_ones 0 (pow_pos (suc t)), pow_pos (suc t), one, none_set)
 
 -- ---- the search for a set digit
 
@@ -121,9 +99,4 @@ module _ (word rest taken : ℕ) (takes : Takes word rest taken) (some : 0 < res
       })
 
   pub finds : IsDigitAt word taken (trailing_zeros w64 rest)
-  finds =
-      let t = trailing_zeros w64 rest in
-      let at = bit_at-trailing_zeros w64 rest some fits in
-      let here = takes.kept t at.1 in
-      let none : count_ones (rest % 2 ^ t) ≡ 0 = ap count_ones (none_below rest t at.1 at.2) ∙ none_set in
-      record { inside = at.0; is_set = here.is_set; below = let below = here.below in omega (arith, below, none) }
+  finds = grind (arith, bit_at-trailing_zeros w64 rest some fits, count_ones, none_below rest, none_set)

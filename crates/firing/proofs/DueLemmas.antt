@@ -1,17 +1,16 @@
 -- Several firings in the source's own order, as parts of a run.
-use Rattle.std.proofs.Common.{◌≡◌, ◌≢◌, ℕ, zero, suc, ◌+◌, ◌-◌, ◌<◌, ◌≤◌, ◌++◌, List, [], length, take, Option, Some, None, refl, sym, ap, subst, ◌∙◌, ⊎_elim, add-one, append-nil, arith}
-use Rattle.std.proofs.lemmas.Bool.{cases_eq}
+use Rattle.std.proofs.Common.{◌≡◌, ◌≢◌, ℕ, zero, suc, ◌+◌, ◌-◌, ◌<◌, ◌≤◌, ◌++◌, List, [], length, take, Option, Some, None, refl, sym, ap, subst, ◌∙◌, add-one, append-nil, arith}
 use Rattle.std.proofs.KnownBytes.{Appends-trans}
 use Rattle.std.specs.Io.KnownBytes.{Appends}
 use Rattle.df_io.specs.Write.{AppendsPrefix}
 use Rattle.firing.specs.declared.playing.PlayEnd.TheVariants.{WriteFault}
 use Rattle.firing.specs.declared.playing.Show.{Show}
-use Rattle.firing.specs.declared.playing.Show.TheVariants.{Output, Nodes, Nothing}
+use Rattle.firing.specs.declared.playing.Show.TheVariants.{Nodes}
 use Rattle.firing.specs.declared.system.Fired.{Fired}
 use Rattle.firing.specs.declared.system.Fired.TheVariants.{Moved, Line, Trapped}
 use Rattle.firing.specs.Control.{Course, IsInStep, KeepsStep, due_at, due_node, steered}
 use Rattle.firing.specs.Laws.{IsLawful}
-use Rattle.firing.specs.Moves.{Moves, CanFire, FiredIs, IsSilent, line_after, line_bytes, newest}
+use Rattle.firing.specs.Moves.{Moves, CanFire, FiredIs, line_after, line_bytes, newest}
 use Rattle.firing.specs.Play.{Moment, Way, by_order, moment, next, node_at, node_of, played, shown, shown_at, shown_of, told, Plays}
 use Rattle.firing.specs.Resuming.{GoesOn}
 use Rattle.firing.specs.SourceOrder.{FiresTo, IsSourceOrder, newest_after}
@@ -22,36 +21,23 @@ use Rattle.firing.proofs.ResumeLemmas.{fires_all, order_goes_on}
 -- ---- what is told of a firing
 
 line_told : (fired : Fired) (line : Option (List ℕ)) (old : List ℕ) → (fired ≢ Line → line ≡ None) → (fired ≡ Line → line ≢ None) → line_bytes line ≡ line_after fired (newest line old)
-line_told Moved line old none some = ap line_bytes (none (λ e. absurd cc))
-line_told Line None old none some = absurd (some refl refl)
-line_told Line (Some bytes) old none some = refl
-line_told Trapped line old none some = ap line_bytes (none (λ e. absurd cc))
+line_told h line old none some = grind arith
 
 module _ {M : Type 0} (s : Moves M) where
   no_line : (m : M) (k : ℕ) (fired : Fired) → FiredIs s m k fired → fired ≢ Line → s.line m k ≡ None
-  no_line m k Moved is other = is.line
-  no_line m k Line is other = absurd (other refl)
-  no_line m k Trapped is other = is.0
+  no_line m k h is other = grind arith
 
   some_line : (m : M) (k : ℕ) (fired : Fired) → FiredIs s m k fired → fired ≡ Line → s.line m k ≢ None
-  some_line m k Moved is same = absurd cc
-  some_line m k Line is same = is.0
-  some_line m k Trapped is same = absurd cc
+  some_line m k h is same = grind arith
 
   pub quiet_trap : (m : M) (k : ℕ) (fired : Fired) → FiredIs s m k fired → fired ≢ Trapped → s.trap (s.fired m k) ≡ None
-  quiet_trap m k Moved is other = is.trap
-  quiet_trap m k Line is other = is.1
-  quiet_trap m k Trapped is other = absurd (other refl)
+  quiet_trap m k h is other = grind arith
 
   pub told_shown : (show : Show) (m : M) (k : ℕ) (fired : Fired) (old : List ℕ) → FiredIs s m k fired → shown_of s show m k ≡ told s show k fired (newest (s.line m k) old)
-  told_shown Output m k fired old is = line_told fired (s.line m k) old (no_line m k fired is) (some_line m k fired is)
-  told_shown Nodes m k fired old is = refl
-  told_shown Nothing m k fired old is = refl
+  told_shown h m k fired old is = grind (arith, line_told, no_line, some_line)
 
   told_same : (show : Show) (j k : ℕ) (fired : Fired) (line : List ℕ) → (show ≡ Nodes → j ≡ k) → told s show j fired line ≡ told s show k fired line
-  told_same Output j k fired line same = refl
-  told_same Nodes j k fired line same = ap (λ i. told s Nodes i fired line) (same refl)
-  told_same Nothing j k fired line same = refl
+  told_same h j k fired line same = grind arith
 
 -- ---- the parts of a run
 
@@ -68,34 +54,17 @@ module _ {M P : Type 0} (s : Moves M) (course : Course M P) where
 
     -- nothing is shown before the last one, unless each is shown
     quiet_at : (show : Show) (n : ℕ) → (show ≡ Nodes → count ≡ 1) → suc n < count → shown_at own show now n ≡ []
-    quiet_at Output n one lt = ap line_bytes ((to.silent n lt).line)
-    quiet_at Nodes n one lt = let only = one refl in absurd (omega (arith, only, lt))
-    quiet_at Nothing n one lt = refl
+    quiet_at h n one lt = grind arith
 
     quiet : (show : Show) (n : ℕ) → (show ≡ Nodes → count ≡ 1) → n < count → shown own show now n ≡ []
     quiet show zero one lt = refl
-    quiet show (suc n) one lt =
-        ap (λ bytes. bytes ++ shown_at own show now n) (quiet show n one (omega (arith, lt)))
-        ∙ quiet_at show n one lt
+    quiet show (suc n) one lt = grind (arith, quiet show n one, quiet_at show n one lt)
 
     last_told : (show : Show) (k : ℕ) (old : List ℕ) → (show ≡ Nodes → count ≡ 1) → k ≡ node_at own now 0 → shown_at own show now final ≡ told s show k fired (newest_after own now count old)
-    last_told show k old one at =
-        let m = (played own now final).marking in
-        let j = node_at own now final in
-        let same : show ≡ Nodes → j ≡ k = λ e. ap (node_at own now) (first e) ∙ sym at in
-        told_shown s show m j fired (newest_after own now final old) (to.last final is_final)
-        ∙ ap (told s show j fired) (ap (λ n. newest_after own now n old) is_final)
-        ∙ told_same s show j k fired (newest_after own now count old) same
-      where
-        first : show ≡ Nodes → final ≡ 0
-        first e = let only = one e in omega (arith, only)
+    last_told show k old one at = grind (arith, told_shown s show, is_final, told_same s show)
 
     all_told : (show : Show) (k : ℕ) (old : List ℕ) → (show ≡ Nodes → count ≡ 1) → k ≡ node_at own now 0 → shown own show now count ≡ told s show k fired (newest_after own now count old)
-    all_told show k old one at =
-        let before : final < count = let all = is_final in omega (arith, all) in
-        ap (shown own show now) (sym is_final)
-        ∙ ap (λ bytes. bytes ++ shown_at own show now final) (quiet show final one before)
-        ∙ last_told show k old one at
+    all_told show k old one at = grind (arith, is_final, quiet show final one, last_told show k old one)
 
     -- ---- the system after them
 
@@ -114,18 +83,11 @@ module _ {M P : Type 0} (s : Moves M) (course : Course M P) where
     module _ {sound : M → Type 0} {in_step : M → P → Type 0} (lawful : IsLawful sound s) (steady : KeepsStep sound s course in_step) (order : IsSourceOrder sound s course in_step) where
       -- the node that fires with control is due
       due_there : (m : M) (c : Option P) (due : Option ℕ) → due_at course m c ≡ due → c ≢ None → sound m → IsInStep s in_step m c → CanFire s m (node_of (due_node s course m c)) → due_at course m c ≡ Some (node_of (due_node s course m c))
-      due_there m None due is some sound_m step can = absurd (some refl)
-      due_there m (Some p) (Some k) is some sound_m step can = is ∙ ap (λ o. Some (node_of o)) (sym is)
-      due_there m (Some p) None is some sound_m step can = absurd (none_due order m (Some p) some sound_m step can.going is (node_of (course.due m p)) can)
+      due_there m h due is some sound_m step can = grind (arith, none_due)
 
       stands_next : (x : Moment M P) (n : ℕ) → Stands sound in_step x → CanFire s x.marking (own.choice n x) → Stands sound in_step (next own x (own.choice n x))
       stands_next x n here can =
-          let k = own.choice n x in
-          record {
-            sound_here = lawful.stays_sound x.marking k here.sound_here can;
-            in_step_here = in_step_next steady x.marking x.control k here.sound_here here.in_step_here can;
-            control_here = control_stays course x.marking x.control k (due_there x.marking x.control (due_at course x.marking x.control) refl here.control_here here.sound_here here.in_step_here can);
-          }
+          grind (arith, in_step_next steady x.marking x.control, control_stays course x.marking x.control, due_there x.marking x.control (due_at course x.marking x.control))
 
       stands_to : (n : ℕ) → n ≤ count → Stands sound in_step now → Stands sound in_step (played own now n)
       stands_to zero le here = here
@@ -238,22 +200,7 @@ module _ {M P : Type 0} (s : Moves M) (course : Course M P) (m : M) (c : Option 
 
   -- the firing of the node that is due
   first_due : (most : ℕ) (fired : Fired) → 0 < most → CanFire s m k → FiredIs s m k fired → FiresTo (by_order s course) (moment m c) most 1 fired (moment (s.fired m k) (steered course m c k))
-  first_due most fired some can did = record {
-    some = omega arith;
-    bounded = omega (arith, some);
-    leads = ap (next (by_order s course) (moment m c)) (sym node_due);
-    going = at_first (λ n. CanFire s (played (by_order s course) (moment m c) n).marking (node_at (by_order s course) (moment m c) n)) (subst (CanFire s m) (sym node_due) can);
-    silent = λ n lt. absurd (omega (arith, lt));
-    last = only_first (λ n. FiredIs s (played (by_order s course) (moment m c) n).marking (node_at (by_order s course) (moment m c) n) fired) (subst (λ j. FiredIs s m j fired) (sym node_due) did);
-  }
-    where
-      at_first : (T : ℕ → Type 0) → T 0 → (n : ℕ) → n < 1 → T n
-      at_first T here zero lt = here
-      at_first T here (suc n) lt = absurd (omega (arith, lt))
-
-      only_first : (T : ℕ → Type 0) → T 0 → (n : ℕ) → suc n ≡ 1 → T n
-      only_first T here zero e = here
-      only_first T here (suc n) e = absurd (omega (arith, e))
+  first_due most fired some can did = grind (arith, node_due)
 
   pub one_due : (most : ℕ) (fired : Fired) → 0 < most → CanFire s m k → FiredIs s m k fired → {then : M} {later : Option P} → then ≡ s.fired m k → later ≡ steered course m c k → FiresTo (by_order s course) (moment m c) most 1 fired (moment then later)
   one_due most fired some can did marking control = subst (FiresTo (by_order s course) (moment m c) most 1 fired) (sym (same_moment marking control)) (first_due most fired some can did)
@@ -277,37 +224,11 @@ module _ {M P : Type 0} (s : Moves M) (course : Course M P) {start : Moment M P}
   here T is_so = subst (λ (x : Moment M P). T x.marking (node_at way start count)) to.leads (subst (T m) (sym at_next) is_so)
 
   next_fires : (fired : Fired) → count < most → CanFire s m k → FiredIs s m k fired → FiresTo way start most (suc count) fired (moment (s.fired m k) (steered course m c k))
-  next_fires fired below can did = record {
-    some = omega arith;
-    bounded = omega (arith, below);
-    leads = ap (next way (moment m c)) (sym at_next) ∙ ap (λ x. next way x (node_at way start count)) to.leads;
-    going = goes;
-    silent = silent;
-    last = λ n e. subst (Holds (λ x j. FiredIs s x j fired)) (last_is n e) (here (λ x j. FiredIs s x j fired) did);
-  }
-    where
-      last_is : (n : ℕ) → suc n ≡ suc count → count ≡ n
-      last_is n e = omega (arith, e)
-
-      goes : (n : ℕ) → n < suc count → Holds (CanFire s) n
-      goes n lt = ⊎_elim
-          (λ (same : count ≡ n). subst (Holds (CanFire s)) same (here (CanFire s) can))
-          (λ differ. to.going n (omega (arith, lt, differ)))
-          (cases_eq count n)
-
-      silent : (n : ℕ) → suc n < suc count → Holds (IsSilent s) n
-      silent n lt = ⊎_elim
-          (λ (same : suc n ≡ count). to.last n same)
-          (λ differ. to.silent n (omega (arith, lt, differ)))
-          (cases_eq (suc n) count)
+  next_fires fired below can did = grind (arith, at_next, here, here (CanFire s) can)
 
   -- the firing of the node that is due then
   pub fires_more : (fired : Fired) → count < most → CanFire s m k → FiredIs s m k fired → {then : M} {later : Option P} → then ≡ s.fired m k → later ≡ steered course m c k → FiresTo way start most (count + 1) fired (moment then later)
   fires_more fired below can did marking control = rw add-one (subst (FiresTo way start most (suc count) fired) (sym (same_moment marking control)) (next_fires fired below can did))
 
   pub line_more : (old : List ℕ) {mid new : List ℕ} → mid ≡ newest_after way start count old → new ≡ newest (s.line m k) mid → new ≡ newest_after way start (count + 1) old
-  line_more old {mid} was is_new = rw add-one (
-      is_new
-      ∙ ap (newest (s.line m k)) was
-      ∙ ap (λ j. newest (s.line m j) (newest_after way start count old)) (sym at_next)
-      ∙ ap (λ (x : Moment M P). newest (s.line x.marking (node_at way start count)) (newest_after way start count old)) to.leads)
+  line_more old {mid} was is_new = grind (arith, add-one, at_next)

@@ -1,11 +1,11 @@
 -- Runs end: by a stop, or at the limit.
 use Rattle.std.proofs.Common.{◌≡◌, ◌≢◌, ℕ, zero, suc, ◌+◌, ◌%◌, ◌<◌, ◌≤◌, ◌++◌, ◌⊎◌, Bool, true, false, if◌then◌else◌, List, [], ◌∷◌, length, get_or, slice_index, Option, Some, None, refl, sym, ap, subst, ◌∙◌, inl, inr, ⊎_elim, length-append, append-nil, arith}
-use Rattle.std.proofs.lemmas.Bool.{cases_eq, cases_lt}
+use Rattle.std.proofs.lemmas.Bool.{cases_eq}
 use Rattle.std.proofs.lemmas.List.{get_or_push, get_or_append_left}
 use Rattle.std.proofs.Math.Nat.{mod-lt}
 use Rattle.op_table.specs.declared.Trap.{Trap}
 use Rattle.firing.specs.declared.playing.PlayEnd.{PlayEnd}
-use Rattle.firing.specs.declared.playing.PlayEnd.TheVariants.{Rest, Trapped, Limit, WriteFault}
+use Rattle.firing.specs.declared.playing.PlayEnd.TheVariants.{Rest, Trapped, Limit}
 use Rattle.firing.specs.Choice.{ready_below, chosen}
 use Rattle.firing.specs.Control.{Course, IsInStep, KeepsStep, due_at, due_node}
 use Rattle.firing.specs.Laws.{IsLawful}
@@ -28,19 +28,8 @@ module _ {M : Type 0} (s : Moves M) (m : M) where
   wider n k is = record { inside = omega (arith, is.inside); ready = is.ready }
 
   listed_if : (n i : ℕ) (b : Bool) → s.ready m n ≡ b → ((j : ℕ) → j < length (ready_below s m n) → IsReadyBelow n (get_or (ready_below s m n) j 0)) → i < length (ready_below s m n ++ (if b then n ∷ [] else [])) → IsReadyBelow (suc n) (get_or (ready_below s m n ++ (if b then n ∷ [] else [])) i 0)
-  listed_if n i true is before lt =
-      let nodes = ready_below s m n in
-      let count = length-append nodes (n ∷ []) in
-      ⊎_elim
-      (λ (same : i ≡ length nodes). subst (IsReadyBelow (suc n)) (sym (get_or_push nodes n 0 i (sym same))) (record { inside = omega arith; ready = is }))
-      (λ differ.
-      let low : i < length nodes = omega (arith, lt, count, differ) in
-      subst (IsReadyBelow (suc n)) (sym (get_or_append_left nodes (n ∷ []) 0 i low)) (wider n (get_or nodes i 0) (before i low)))
-      (cases_eq i (length nodes))
-  listed_if n i false is before lt =
-      let nodes = ready_below s m n in
-      let low : i < length nodes = subst (λ xs. i < length xs) (append-nil nodes) lt in
-      subst (λ xs. IsReadyBelow (suc n) (get_or xs i 0)) (sym (append-nil nodes)) (wider n (get_or nodes i 0) (before i low))
+  listed_if n i true is before lt = grind (arith, length-append, get_or_push, get_or_append_left, wider n)
+  listed_if n i false is before lt = grind (arith, append-nil, wider n)
 
   listed : (n i : ℕ) → i < length (ready_below s m n) → IsReadyBelow n (get_or (ready_below s m n) i 0)
   listed zero i lt = absurd (omega (arith, lt))
@@ -48,10 +37,7 @@ module _ {M : Type 0} (s : Moves M) (m : M) where
 
   none_if : (n k : ℕ) (b : Bool) → s.ready m n ≡ b → (length (ready_below s m n) ≡ 0 → k < n → ⊥) → length (ready_below s m n ++ (if b then n ∷ [] else [])) ≡ 0 → k < suc n → s.ready m k ≡ true → ⊥
   none_if n k true is before none lt ready = let count = length-append (ready_below s m n) (n ∷ []) in absurd (omega (arith, count, none))
-  none_if n k false is before none lt ready = ⊎_elim
-      (λ (same : k ≡ n). let clash : true ≡ false = sym ready ∙ ap (s.ready m) same ∙ is in absurd cc)
-      (λ differ. before (ap length (sym (append-nil (ready_below s m n))) ∙ none) (omega (arith, lt, differ)))
-      (cases_eq k n)
+  none_if n k false is before none lt ready = grind (arith, append-nil)
 
   none_listed : (n k : ℕ) → length (ready_below s m n) ≡ 0 → k < n → s.ready m k ≡ true → ⊥
   none_listed zero k none lt ready = absurd (omega (arith, lt))
@@ -75,9 +61,7 @@ module _ {M P : Type 0} (w : Way M P) where
     ends_from left n is kept going (inl (trap, trapped)) = record { firings = n; end = Trapped trap.0 trap.1; run = record { going = going; bounded = omega (arith, is); ends = trapped; own = tt } }
     ends_from left n is kept going (inr (inl (none, over))) = record { firings = n; end = Rest n; run = record { going = going; bounded = omega (arith, is); ends = (refl, none, over); own = tt } }
     ends_from zero n is kept going (inr (inr can)) = record { firings = n; end = Limit; run = record { going = going; bounded = omega (arith, is); ends = (omega (arith, is), can); own = tt } }
-    ends_from (suc left) n is kept going (inr (inr can)) =
-        let later = keeps n (played w start n) kept can in
-        ends_from left (suc n) (omega (arith, is)) later (goes_on n going can) (comes (suc n) (played w start (suc n)) later)
+    ends_from (suc left) n is kept going (inr (inr can)) = grind (arith, ends_from left (suc n), goes_on n going can)
 
     pub ends : Kept start → HasEnd w start limit
     ends kept = ends_from limit 0 (omega arith) kept (λ j lt. absurd (omega (arith, lt))) (comes 0 start kept)
@@ -88,11 +72,7 @@ module _ {M P : Type 0} (s : Moves M) (course : Course M P) (picks : List ℕ) w
   pick_comes : (x : Moment M P) (q : ℕ) (trap : Option (Trap × ℕ)) → s.trap x.marking ≡ trap → (count : ℕ) → length (ready_below s x.marking s.nodes) ≡ count → ((t : Trap × ℕ) × (s.trap x.marking ≡ Some t)) ⊎ (((s.trap x.marking ≡ None) × IsOver s x.marking) ⊎ CanFire s x.marking (chosen s x.marking q))
   pick_comes x q (Some t) is count counted = inl (t, is)
   pick_comes x q None is zero counted = inr (inl (is, λ k can. none_listed s x.marking s.nodes k counted can.node can.ready))
-  pick_comes x q None is (suc count) counted =
-      let nodes = ready_below s x.marking s.nodes in
-      let low : q % length nodes < length nodes = mod-lt q (omega (arith, counted)) in
-      let at = listed s x.marking s.nodes (q % length nodes) low in
-      inr (inr (record { going = is; node = at.inside; ready = at.ready }))
+  pick_comes x q None is (suc count) counted = grind (arith, mod-lt q, listed s x.marking)
 
   pub picks_end : (start : Moment M P) (limit : ℕ) → HasEnd (by_picks s course picks) start limit
   picks_end start limit = ends (by_picks s course picks) (λ x. Unit {0}) (λ i x kept. pick_comes x (slice_index picks (i % length picks)) (s.trap x.marking) refl (length (ready_below s x.marking s.nodes)) refl) (λ i x kept can. tt) start limit tt
@@ -106,9 +86,7 @@ module _ {M P : Type 0} (sound : M → Type 0) (s : Moves M) (course : Course M 
     control : x.control ≢ None
 
   due_comes : (x : Moment M P) → IsKept x → (trap : Option (Trap × ℕ)) → s.trap x.marking ≡ trap → (due : Option ℕ) → due_at course x.marking x.control ≡ due → ((t : Trap × ℕ) × (s.trap x.marking ≡ Some t)) ⊎ (((s.trap x.marking ≡ None) × IsOver s x.marking) ⊎ CanFire s x.marking (node_of (due_node s course x.marking x.control)))
-  due_comes x kept (Some t) is due told = inl (t, is)
-  due_comes x kept None is None told = inr (inl (is, none_due ordered x.marking x.control kept.control kept.is_sound kept.step is told))
-  due_comes x kept None is (Some k) told = inr (inr (subst (CanFire s x.marking) (sym (ap node_of (due_here course s x.marking x.control k told))) (due_fires ordered x.marking x.control k kept.is_sound kept.step is told)))
+  due_comes x kept h is due told = grind (arith, none_due, due_here, due_fires)
 
   -- the node that can fire is the one that is due
   is_due : (x : Moment M P) → IsKept x → (due : Option ℕ) → due_at course x.marking x.control ≡ due → CanFire s x.marking (node_of (due_node s course x.marking x.control)) → due_at course x.marking x.control ≡ Some (node_of (due_node s course x.marking x.control))
@@ -117,12 +95,7 @@ module _ {M P : Type 0} (sound : M → Type 0) (s : Moves M) (course : Course M 
 
   due_keeps : (i : ℕ) (x : Moment M P) → IsKept x → CanFire s x.marking (node_of (due_node s course x.marking x.control)) → IsKept (next (by_order s course) x (node_of (due_node s course x.marking x.control)))
   due_keeps i x kept can =
-      let k = node_of (due_node s course x.marking x.control) in
-      record {
-        is_sound = lawful.stays_sound x.marking k kept.is_sound can;
-        step = in_step_next steady x.marking x.control k kept.is_sound kept.step can;
-        control = control_stays course x.marking x.control k (is_due x kept (due_at course x.marking x.control) refl can);
-      }
+      grind (arith, in_step_next steady x.marking x.control, control_stays course x.marking x.control, is_due x kept (due_at course x.marking x.control))
 
   pub order_ends : (start : Moment M P) (limit : ℕ) → sound start.marking → IsInStep s in_step start.marking start.control → start.control ≢ None → HasEnd (by_order s course) start limit
   order_ends start limit is_sound step control = ends (by_order s course) IsKept (λ i x kept. due_comes x kept (s.trap x.marking) refl (due_at course x.marking x.control) refl) due_keeps start limit (record { is_sound = is_sound; step = step; control = control })
@@ -130,50 +103,19 @@ module _ {M P : Type 0} (sound : M → Type 0) (s : Moves M) (course : Course M 
 -- ---- a run has one end
 
 module _ {M P : Type 0} (w : Way M P) (start : Moment M P) (limit : ℕ) where
-  abbrev some : Trap × ℕ → Option (Trap × ℕ)
-  some trap = Some trap
-
   -- where a run ends, no other goes on
   stops : (n m : ℕ) (end : PlayEnd) → IsOwnEnd end → EndsBy w start limit n end → m ≤ limit → n < m → CanFire w.moves (played w start n).marking (node_at w start n) → ⊥
-  stops n m (Rest count) own ended le lt can = ended.2 (node_at w start n) can
-  stops n m (Trapped trap line) own ended le lt can = let clash : some (trap, line) ≡ None = sym ended ∙ can.going in absurd cc
-  stops n m Limit own ended le lt can = let is = ended.0 in absurd (omega (arith, is, le, lt))
-  stops n m (WriteFault count) own ended le lt can = own
+  stops n m h own ended le lt can = grind arith
 
   pub same_count : (n m : ℕ) (end other : PlayEnd) → IsRun w start limit n end → IsRun w start limit m other → n ≡ m
-  same_count n m end other run rest = ⊎_elim
-      (λ (same : n ≡ m). same)
-      (λ differ. ⊎_elim
-      (λ (lt : n < m). absurd (stops n m end run.own run.ends rest.bounded lt (rest.going n lt)))
-      (λ (le : m ≤ n). let lt : m < n = omega (arith, le, differ) in absurd (stops m n other rest.own rest.ends run.bounded lt (run.going m lt)))
-      (cases_lt n m))
-      (cases_eq n m)
+  same_count n m end other run rest = grind (arith, stops)
 
   module _ (n : ℕ) where
-    abbrev trap_end : Option (Trap × ℕ) → PlayEnd
-    trap_end None = Limit
-    trap_end (Some (trap, line)) = Trapped trap line
-
     same_end : (end other : PlayEnd) → IsOwnEnd end → IsOwnEnd other → EndsBy w start limit n end → EndsBy w start limit n other → end ≡ other
-    same_end (WriteFault c) other own too a b = absurd own
-    same_end end (WriteFault c) own too a b = absurd too
-    same_end (Rest c) (Rest d) own too a b = ap Rest (a.0 ∙ sym b.0)
-    same_end (Rest c) (Trapped trap line) own too a b = let clash : some (trap, line) ≡ None = sym b ∙ a.1 in absurd cc
-    same_end (Rest c) Limit own too a b = absurd (a.2 (node_at w start n) b.1)
-    same_end (Trapped trap line) (Rest d) own too a b = let clash : some (trap, line) ≡ None = sym a ∙ b.1 in absurd cc
-    same_end (Trapped trap line) (Trapped kind at) own too a b = ap trap_end (sym a ∙ b)
-    same_end (Trapped trap line) Limit own too a b = let clash : some (trap, line) ≡ None = sym a ∙ b.1.going in absurd cc
-    same_end Limit (Rest d) own too a b = absurd (b.2 (node_at w start n) a.1)
-    same_end Limit (Trapped trap line) own too a b = let clash : some (trap, line) ≡ None = sym b ∙ a.1.going in absurd cc
-    same_end Limit Limit own too a b = refl
+    same_end end other own too a b = grind arith
 
   pub one_end : (n m : ℕ) (end other : PlayEnd) → IsRun w start limit n end → IsRun w start limit m other → (n ≡ m) × (end ≡ other)
-  one_end n m end other run rest =
-      let same = same_count n m end other run rest in
-      (same, same_end n end other run.own rest.own run.ends (subst (λ i. EndsBy w start limit i other) (sym same) rest.ends))
+  one_end n m end other run rest = grind (arith, same_count n m end other run rest, same_end n end other run.own rest.own run.ends)
 
   pub longest : (n m : ℕ) (end : PlayEnd) → IsRun w start limit m end → n ≤ limit → ((j : ℕ) → j < n → CanFire w.moves (played w start j).marking (node_at w start j)) → n ≤ m
-  longest n m end run le going = ⊎_elim
-      (λ (lt : m < n). absurd (stops m n end run.own run.ends le lt (going m lt)))
-      (λ (is : n ≤ m). is)
-      (cases_lt m n)
+  longest n m end run le going = search (stops, arith)

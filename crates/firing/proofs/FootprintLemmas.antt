@@ -1,9 +1,10 @@
 -- Nodes that touch different parts of a marking, or share parts, keep the laws of firing.
-use Rattle.std.proofs.Common.{◌≡◌, ◌⊎◌, inl, inr, ℕ, Bool, true, false, refl, sym, ap, ◌∙◌, ⊎_elim}
+use Rattle.std.proofs.Common.{◌≡◌, ◌⊎◌, inl, inr, ℕ, Bool, true, false, sym, ◌∙◌, ⊎_elim}
 use Rattle.std.proofs.lemmas.Bool.{cases_Bool}
 use Rattle.firing.specs.Footprints.{IsReadyAt, LooksSame, HasFootprints, IsUpdated, LooksShared, SharesFootprints}
 use Rattle.firing.specs.Laws.{IsLawful, AreReady}
 use Rattle.firing.specs.Moves.{Moves}
+use Rattle.std.proofs.Common.{arith}
 
 module _ {M Part : Type 0} {V : Part → Type 0} (sound : M → Type 0) (s : Moves M) (at : M → (part : Part) → V part) (foot shares : ℕ → Part → Bool) (update : ℕ → (part : Part) → V part → V part) (has : SharesFootprints sound s at foot shares update) where
   turned : (m : M) (j k : ℕ) → AreReady sound s m j k → AreReady sound s m k j
@@ -14,25 +15,10 @@ module _ {M Part : Type 0} {V : Part → Type 0} (sound : M → Type 0) (s : Mov
 
   -- what a node sees at a part after another one fired
   seen : (m : M) (j k : ℕ) → AreReady sound s m j k → (part : Part) → foot k part ≡ true → (at (s.fired m j) part ≡ at m part) ⊎ IsUpdated sound s at shares update m (s.fired m j) k part
-  seen m j k both part mine = ⊎_elim
-      (λ (theirs : foot j part ≡ true).
-      let shared = has.apart m k j (turned m j k both) part mine theirs in
-      inr (record {
-        other = j;
-        both = both;
-        other_shares = shared;
-        shares_too = has.apart m j k both part theirs mine;
-        is = has.updates m j (ready_at m k j (turned m j k both)) part shared;
-      }))
-      (λ not. inl (has.outside m j (ready_at m k j (turned m j k both)) part not))
-      (cases_Bool (foot j part))
+  seen m j k both part mine = grind (arith, turned m, ready_at m k)
 
   looks : (m : M) (j k : ℕ) → AreReady sound s m j k → LooksShared sound s at foot shares update m (s.fired m j) k
-  looks m j k both = record {
-    first = ready_at m j k both;
-    second = has.stays_sound m j both.is_sound both.first;
-    agree = seen m j k both;
-  }
+  looks m j k both = grind (arith, ready_at m j k both, seen m j k both)
 
   stays : (m : M) (j k : ℕ) → AreReady sound s m j k → s.ready (s.fired m j) k ≡ true
   stays m j k both = has.ready m (s.fired m j) k (looks m j k both)
@@ -47,19 +33,11 @@ module _ {M Part : Type 0} {V : Part → Type 0} (sound : M → Type 0) (s : Mov
 
   -- a part that the first one doesn't have
   only_second : (m : M) (j k : ℕ) → AreReady sound s m j k → (part : Part) → foot j part ≡ false → foot k part ≡ true → at (s.fired (s.fired m j) k) part ≡ at (s.fired m k) part
-  only_second m j k both part not mine = ⊎_elim
-      (λ (shared : shares k part ≡ true).
-      has.updates (s.fired m j) k (still m j k both) part shared
-      ∙ ap (update k part) (has.outside m j (ready_at m k j (turned m j k both)) part not)
-      ∙ sym (has.updates m k (ready_at m j k both) part shared))
-      (λ own. has.inside m (s.fired m j) k (looks m j k both) part mine own)
-      (cases_Bool (shares k part))
+  only_second m j k both part not mine = search (still, ready_at, turned, looks, arith)
 
   -- a part that both have
   in_both : (m : M) (j k : ℕ) → AreReady sound s m j k → (part : Part) → shares j part ≡ true → shares k part ≡ true → at (s.fired (s.fired m j) k) part ≡ update k part (update j part (at m part))
-  in_both m j k both part first second =
-      has.updates (s.fired m j) k (still m j k both) part second
-      ∙ ap (update k part) (has.updates m j (ready_at m k j (turned m j k both)) part first)
+  in_both m j k both part first second = grind (arith, still m j k both, ready_at m k j (turned m j k both), turned m j k both)
 
   each_part : (m : M) (j k : ℕ) → AreReady sound s m j k → (part : Part) → at (s.fired (s.fired m j) k) part ≡ at (s.fired (s.fired m k) j) part
   each_part m j k both part = ⊎_elim
@@ -83,14 +61,7 @@ module _ {M Part : Type 0} {V : Part → Type 0} (sound : M → Type 0) (s : Mov
       (cases_Bool (foot j part))
 
   one : (m : M) (j k : ℕ) → AreReady sound s m j k → s.serial j ≡ true → s.serial k ≡ false
-  one m j k both serial = ⊎_elim
-      (λ (other : s.serial k ≡ true).
-      let shared = has.apart m j k both has.output (has.serial j serial) (has.serial k other) in
-      let not = has.alone k other in
-      let e : true ≡ false = sym shared ∙ not in
-      absurd cc)
-      (λ not. not)
-      (cases_Bool (s.serial k))
+  one m j k both serial = grind arith
 
   pub shared_lawful : IsLawful sound s
   shared_lawful = record {
@@ -122,22 +93,7 @@ module _ {M Part : Type 0} {V : Part → Type 0} (sound : M → Type 0) (s : Mov
   no_part m j k both part theirs mine = let not = has.apart m j k both part theirs in let e : true ≡ false = sym mine ∙ not in absurd cc
 
   shares : SharesFootprints sound s at foot none_shared (as_was V)
-  shares = record {
-    equal = has.equal;
-    outside = has.outside;
-    updates = λ m k ready part shared. let e : false ≡ true = shared in absurd cc;
-    ready = λ m n k looks. has.ready m n k (alike m n k looks);
-    line = λ m n k looks. has.line m n k (alike m n k looks);
-    trap = λ m n k looks. has.trap m n k (alike m n k looks);
-    inside = λ m n k looks part mine own. has.inside m n k (alike m n k looks) part mine;
-    apart = no_part;
-    commute = λ m j k both part first second. let e : false ≡ true = first in absurd cc;
-    output = has.output;
-    serial = has.serial;
-    alone = λ k serial. refl;
-    silent = has.silent;
-    stays_sound = has.stays_sound;
-  }
+  shares = grind (arith, alike, no_part)
 
   pub lawful : IsLawful sound s
   lawful = shared_lawful sound s at foot none_shared (as_was V) shares

@@ -1,6 +1,5 @@
 -- Marks that are set one by one, and after a firing.
-use Rattle.std.proofs.Common.{◌≡◌, ◌⊎◌, ℕ, ◌+◌, ◌<◌, ◌≤◌, Bool, false, List, length, get_or, set, sym, ap, subst, ◌∙◌, ⊎_elim, arith, length-set}
-use Rattle.std.proofs.lemmas.Bool.{cases_eq}
+use Rattle.std.proofs.Common.{◌≡◌, ◌⊎◌, ℕ, ◌+◌, ◌<◌, ◌≤◌, Bool, false, List, length, get_or, set, ap, ◌∙◌, arith, length-set}
 use Rattle.std.proofs.lemmas.List.{get_or-set_same, get_or-set_other}
 use Rattle.firing.specs.Marks.{AreMarks}
 use Rattle.firing.specs.ReadySet.{has}
@@ -13,10 +12,7 @@ module _ (count : ℕ) (test : ℕ → Bool) where
 
   -- one mark is set
   set_keeps : (old new : List Bool) (k : ℕ) → k < length old → new ≡ set old k (test k) → (j : ℕ) → has old j ≡ test j → has new j ≡ test j
-  set_keeps old new k inside is j right = ⊎_elim
-      (λ (same : j ≡ k). ap (λ xs. has xs j) is ∙ ap (has (set old k (test k))) same ∙ get_or-set_same old k (test k) false inside ∙ ap test (sym same))
-      (λ differ. ap (λ xs. has xs j) is ∙ get_or-set_other old k j (test k) false differ ∙ right)
-      (cases_eq j k)
+  set_keeps old new k inside is j right = grind (arith, get_or-set_same old, get_or-set_other old)
 
   set_here : (old new : List Bool) (k : ℕ) → k < length old → new ≡ set old k (test k) → has new k ≡ test k
   set_here old new k inside is = ap (λ xs. has xs k) is ∙ get_or-set_same old k (test k) false inside
@@ -25,15 +21,7 @@ module _ (count : ℕ) (test : ℕ → Bool) where
   set_room old new k is = ap length is ∙ length-set old k (test k)
 
   pub below_next : (k : ℕ) (old new : List Bool) → k < count → RightBelow k old → new ≡ set old k (test k) → RightBelow (k + 1) new
-  below_next k old new node below is =
-      let inside : k < length old = let room = below.room in omega (arith, node, room) in
-      record {
-        room = set_room old new k is ∙ below.room;
-        right = λ j lt. ⊎_elim
-            (λ (same : j ≡ k). subst (λ i. has new i ≡ test i) (sym same) (set_here old new k inside is))
-            (λ differ. set_keeps old new k inside is j (below.right j (omega (arith, lt, differ))))
-            (cases_eq j k);
-      }
+  below_next k old new node below is = grind (arith, set_room old new, set_here old new, set_keeps old new)
 
   pub below_all : (n : ℕ) (marks : List Bool) → count ≤ n → RightBelow n marks → AreMarks count test marks
   below_all n marks le below = record { room = below.room; right = λ j lt. below.right j (omega (arith, lt, le)) }

@@ -1,19 +1,17 @@
 -- The source's own order as a run, with control and without.
-use Rattle.std.proofs.Common.{◌≡◌, ℕ, zero, suc, ◌%◌, ◌≤◌, ◌++◌, List, [], ◌∷◌, length, take, get_or, slice_get, slice_index, Option, Some, None, refl, sym, ap, subst, ◌∙◌, ⊎_elim, arith}
-use Rattle.std.proofs.lemmas.Bool.{cases_eq}
+use Rattle.std.proofs.Common.{◌≡◌, ℕ, zero, suc, ◌%◌, ◌≤◌, ◌++◌, List, [], ◌∷◌, length, slice_index, Option, Some, None, refl, ap, subst, ◌∙◌, arith}
 use Rattle.std.proofs.Math.Nat.{zero-mod}
-use Rattle.std.specs.Io.KnownBytes.{Appends}
 use Rattle.firing.specs.declared.playing.PlayEnd.{PlayEnd}
-use Rattle.firing.specs.declared.playing.PlayEnd.TheVariants.{Rest, Trapped, Limit, WriteFault}
+use Rattle.firing.specs.declared.playing.PlayEnd.TheVariants.{Limit}
 use Rattle.firing.specs.declared.playing.Show.{Show}
-use Rattle.firing.specs.Choice.{ready_below}
-use Rattle.firing.specs.Control.{Course, due_node, steered}
+use Rattle.firing.specs.Control.{Course, steered}
 use Rattle.firing.specs.Moves.{Moves, CanFire}
 use Rattle.firing.specs.Orders.{IsOver, after}
 use Rattle.firing.specs.Play.{Moment, Way, moment, next, node_of, by_order, by_picks, played, node_at, shown_of, shown_at, shown, BreaksOff, EndsBy, Writes, Plays}
 use Rattle.firing.specs.Runs.{IsRun}
 use Rattle.firing.specs.SourceOrder.{IsDueOrder}
 use Rattle.firing.proofs.ControlLemmas.{moves_on}
+use Rattle.std.proofs.lemmas.Grind.{elements}
 
 -- ---- with control
 
@@ -33,28 +31,10 @@ module _ {M P : Type 0} (s : Moves M) (course : Course M P) where
 
   -- a run that the nodes that are due end in time doesn't stop at the limit
   pub not_limit : (m : M) (c : Option P) (p : P) (ks : List ℕ) → c ≡ Some p → IsDueOrder s course m p ks → IsOver s (after s m ks) → (limit : ℕ) → length ks ≤ limit → {show : Show} {end : Moment M P} {old new : Option (List ℕ)} → Plays own (moment m c) limit show end old new Limit → ⊥
-  not_limit m c p ks at order over limit le plays =
-      let start = moment m c in
-      let n = length ks in
-      let all = plays.ends.0 in
-      let can : CanFire s (played own start n).marking (node_at own start n) = ⊎_elim
-      (λ (same : n ≡ plays.firings). subst (λ i. CanFire s (played own start i).marking (node_at own start i)) (sym same) plays.ends.1)
-      (λ differ. plays.going n (omega (arith, le, differ, all)))
-      (cases_eq n plays.firings) in
-      let there : (played own start n).marking ≡ after s m ks = ap (λ x. (played own (moment m x) n).marking) at ∙ reached m p ks order in
-      over (node_at own start n) (subst (λ x. CanFire s x (node_at own start n)) there can)
+  not_limit m c p ks at order over limit le plays = grind (arith, reached m p ks order)
 
   pub not_stopped : (m : M) (p : P) (ks : List ℕ) → IsDueOrder s course m p ks → IsOver s (after s m ks) → (limit n : ℕ) (end : PlayEnd) → length ks ≤ limit → IsRun own (moment m (Some p)) limit n end → end ≡ Limit → ⊥
-  not_stopped m p ks order over limit n end le run is =
-      let start = moment m (Some p) in
-      let count = length ks in
-      let ends : EndsBy own start limit n Limit = subst (EndsBy own start limit n) is run.ends in
-      let all = ends.0 in
-      let can : CanFire s (played own start count).marking (node_at own start count) = ⊎_elim
-      (λ (same : count ≡ n). subst (λ i. CanFire s (played own start i).marking (node_at own start i)) (sym same) ends.1)
-      (λ differ. run.going count (omega (arith, le, differ, all)))
-      (cases_eq count n) in
-      over (node_at own start count) (subst (λ x. CanFire s x (node_at own start count)) (reached m p ks order) can)
+  not_stopped m p ks order over limit n end le run is = grind (arith, reached m p ks order)
 
   -- ---- without control
 
@@ -62,23 +42,11 @@ module _ {M P : Type 0} (s : Moves M) (course : Course M P) where
   abbrev by_lowest : Way M P
   by_lowest = by_picks s course (0 ∷ [])
 
-  first_of : (xs : List ℕ) → get_or xs 0 0 ≡ node_of (slice_get xs 0)
-  first_of [] = refl
-  first_of (x ∷ xs) = refl
-
   first_place : (n : ℕ) → slice_index (0 ∷ []) (n % 1) ≡ 0
   first_place n = let e : n % 1 ≡ 0 = omega arith in ap (slice_index (0 ∷ [])) e
 
   same_choice : (n : ℕ) (x : Moment M P) → x.control ≡ None → by_lowest.choice n x ≡ own.choice n x
-  same_choice n x lost =
-      let nodes = ready_below s x.marking s.nodes in
-      ap (λ q. get_or nodes (q % length nodes) 0) (first_place n)
-      ∙ ap (λ i. get_or nodes i 0) (none_of (length nodes))
-      ∙ first_of nodes
-      ∙ ap (λ c. node_of (due_node s course x.marking c)) (sym lost)
-    where
-      none_of : (n : ℕ) → 0 % n ≡ 0
-      none_of n = zero-mod n
+  same_choice n x lost = grind (arith, elements, first_place, zero-mod)
 
   module _ (m : M) where
     abbrev lost : Moment M P
@@ -106,38 +74,17 @@ module _ {M P : Type 0} (s : Moves M) (course : Course M P) where
     fires_same n can = subst (CanFire s (played own lost n).marking) (same_node n) (subst (λ (x : Moment M P). CanFire s x.marking (node_at by_lowest lost n)) (same_played n) can)
 
     ends_same : (limit n : ℕ) (result : PlayEnd) → EndsBy by_lowest lost limit n result → EndsBy own lost limit n result
-    ends_same limit n (Rest count) (is, none, over) = (is, subst (λ (x : Moment M P). s.trap x.marking ≡ None) (same_played n) none, subst (λ (x : Moment M P). IsOver s x.marking) (same_played n) over)
-    ends_same limit n (Trapped trap line) is = subst (λ (x : Moment M P). s.trap x.marking ≡ Some (trap, line)) (same_played n) is
-    ends_same limit n Limit (is, can) = (is, fires_same n can)
-    ends_same limit n (WriteFault count) is = is
+    ends_same limit n h is = grind (arith, same_played, fires_same)
 
     module _ (show : Show) (old new : Option (List ℕ)) where
       broken_same : (n : ℕ) → BreaksOff by_lowest show lost n old new → BreaksOff own show lost n old new
-      broken_same n b =
-          let prefix = ap (λ bytes. bytes ++ take b.count (shown_at by_lowest show lost b.last)) (same_shown show b.last) in
-          let last = ap (λ bytes. shown own show lost b.last ++ take b.count bytes) (same_at show b.last) in
-          record {
-            last = b.last;
-            is = b.is;
-            count = b.count;
-            within = subst (λ bytes. b.count ≤ length bytes) (same_at show b.last) b.within;
-            written = subst (Appends old new) (prefix ∙ last) b.written;
-          }
+      broken_same n b = grind (arith, same_shown show, same_at show)
 
       writes_same : (n : ℕ) (result : PlayEnd) → Writes by_lowest show lost n old new result → Writes own show lost n old new result
-      writes_same n (WriteFault count) writes = broken_same n writes
-      writes_same n (Rest count) writes = subst (Appends old new) (same_shown show n) writes
-      writes_same n (Trapped trap line) writes = subst (Appends old new) (same_shown show n) writes
-      writes_same n Limit writes = subst (Appends old new) (same_shown show n) writes
+      writes_same n h writes = grind (arith, broken_same, same_shown)
 
   -- Without control the run of the pick 0 is that of the nodes that are due.
   pub lowest_due : (m : M) (c : Option P) → c ≡ None → {limit : ℕ} {show : Show} {end : Moment M P} {old new : Option (List ℕ)} {result : PlayEnd} → Plays by_lowest (moment m c) limit show end old new result → Plays own (moment m c) limit show end old new result
   lowest_due m (Some p) is plays = absurd cc
-  lowest_due m None is {limit} {show} {end} {old} {new} {result} plays = record {
-    firings = plays.firings;
-    leads = plays.leads ∙ same_played m plays.firings;
-    going = λ n lt. fires_same m n (plays.going n lt);
-    bounded = plays.bounded;
-    ends = ends_same m limit plays.firings result plays.ends;
-    writes = writes_same m show old new plays.firings result plays.writes;
-  }
+  lowest_due m None is {limit} {show} {end} {old} {new} {result} plays =
+      grind (arith, same_played m plays.firings, fires_same m, ends_same m limit plays.firings result plays.ends, writes_same m show old new plays.firings result plays.writes)

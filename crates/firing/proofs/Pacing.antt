@@ -59,9 +59,7 @@ module _ {M : Type 0} (sound : M → Type 0) (s : Moves M) (lawful : IsLawful so
   trapped n trap is = traps sound s lawful trap start (own n) is_sound (simulated.order n) (failed n trap is)
 
   own_output : (n : ℕ) (trap : Trap × ℕ) (is : stage n ≡ Failed trap) → (trapped n trap is).output ≡ written s start (own n)
-  own_output n trap is =
-      let whole : IsWhole s start (own n) = record { order = simulated.order n; over = over_trap s (after s start (own n)) trap (failed n trap is) } in
-      sym ((trapped n trap is).same_output (own n) whole)
+  own_output n trap is = grind (arith, over_trap s (after s start (own n)) trap (failed n trap is), failed n trap is, trapped n trap is)
 
   -- an order that makes no fewer serial firings than these
   caught_up : (n count : ℕ) → stage n ≡ Going → (stage n ≢ Going) ⊎ (count ≤ serial_count s (own n)) → count ≤ serial_count s (own n)
@@ -77,11 +75,7 @@ module _ {M : Type 0} (sound : M → Type 0) (s : Moves M) (lawful : IsLawful so
   prefix-by ks order b (IsFailed trap is) = record { steps = b.at; prefix = subst (λ bytes. IsPrefix (written s start ks) bytes) (own_output b.at trap is ∙ simulated.lines b.at) ((trapped b.at trap is).prefix ks order) }
 
   rests-by : (ks : List ℕ) → IsWhole s start ks → s.trap (after s start ks) ≡ None → (b : IsBusy s own stage (suc (length ks))) → IsStage (stage b.at) → EndsWith s start text stage own ks
-  rests-by ks whole none b (IsGoing is) =
-      let at_most = (settles sound s lawful start ks is_sound whole none).at_most (own b.at) (simulated.order b.at) in
-      let enough = caught_up b.at (suc (length ks)) is b.enough in
-      let serials = serials_at_most s (own b.at) in
-      absurd (omega (arith, at_most, enough, serials))
+  rests-by ks whole none b (IsGoing is) = grind (arith, settles sound s lawful start ks is_sound whole none, caught_up, serials_at_most s)
   rests-by ks whole none b (IsDone is) =
       let all = settled b.at is in
       let count = all.whole ks whole in

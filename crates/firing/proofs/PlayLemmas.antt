@@ -1,6 +1,5 @@
 -- Runs, one firing after another.
-use Rattle.std.proofs.Common.{◌≡◌, ℕ, suc, ◌+◌, ◌<◌, ◌≤◌, List, length, take, Option, None, refl, ap, subst, ◌∙◌, ⊎_elim, add-one, arith}
-use Rattle.std.proofs.lemmas.Bool.{cases_eq}
+use Rattle.std.proofs.Common.{◌≡◌, ℕ, suc, ◌+◌, ◌<◌, ◌≤◌, List, take, Option, None, ap, subst, ◌∙◌, add-one, arith}
 use Rattle.std.proofs.KnownBytes.{Appends-trans}
 use Rattle.std.specs.Io.KnownBytes.{Appends}
 use Rattle.df_io.specs.Write.{AppendsPrefix}
@@ -29,10 +28,7 @@ module _ {M P : Type 0} (w : Way M P) (start : Moment M P) where
       fires = subst (λ (x : Moment M P). CanFire w.moves x.marking (node_at w start made)) run.leads (subst (λ i. CanFire w.moves now.marking i) here can)
 
       goes : (n : ℕ) → n < suc made → CanFire w.moves (played w start n).marking (node_at w start n)
-      goes n lt = ⊎_elim
-          (λ (same : made ≡ n). subst (λ i. CanFire w.moves (played w start i).marking (node_at w start i)) same fires)
-          (λ differ. run.going n (omega (arith, lt, differ)))
-          (cases_eq made n)
+      goes n lt = grind (arith, fires)
 
       shows : shown_of w.moves show now.marking k ≡ shown_at w show start made
       shows = ap (shown_of w.moves show now.marking) here ∙ ap (λ (x : Moment M P). shown_of w.moves show x.marking (node_at w start made)) run.leads
@@ -41,50 +37,20 @@ module _ {M P : Type 0} (w : Way M P) (start : Moment M P) where
       moves_on then is = is ∙ ap (next w now) here ∙ ap (λ (x : Moment M P). next w x (node_at w start made)) run.leads
 
       pub run_on : {then : Moment M P} {new : Option (List ℕ)} → then ≡ next w now k → Appends mid new (shown_of w.moves show now.marking k) → Running w start then limit show (made + 1) old new
-      run_on {then} {new} is added = rw add-one (record {
-        leads = moves_on then is;
-        going = goes;
-        bounded = omega (arith, below);
-        written = Appends-trans old mid new (shown w show start made) (shown_at w show start made) run.written (subst (Appends mid new) shows added);
-      })
+      run_on {then} {new} is added =
+          grind (arith, add-one, moves_on, goes, Appends-trans old mid new (shown w show start made) (shown_at w show start made) run.written, shows)
 
       pub run_breaks : {then : Moment M P} {new : Option (List ℕ)} → then ≡ next w now k → AppendsPrefix mid new (shown_of w.moves show now.marking k) → Plays w start limit show then old new (WriteFault (made + 1))
-      run_breaks {then} {new} is prefix = record {
-        firings = suc made;
-        leads = moves_on then is;
-        going = goes;
-        bounded = omega (arith, below);
-        ends = add-one made;
-        writes = record {
-          last = made;
-          is = refl;
-          count = prefix.count;
-          within = subst (λ bytes. prefix.count ≤ length bytes) shows prefix.within;
-          written = Appends-trans old mid new (shown w show start made) (take prefix.count (shown_at w show start made)) run.written (subst (λ bytes. Appends mid new (take prefix.count bytes)) shows prefix.added);
-        };
-      }
+      run_breaks {then} {new} is prefix =
+          grind (arith, moves_on, goes, add-one made, shows, Appends-trans old mid new (shown w show start made) (take prefix.count (shown_at w show start made)) run.written)
 
     -- ---- the ends
 
     pub run_rests : w.moves.trap now.marking ≡ None → IsOver w.moves now.marking → Plays w start limit show now old mid (Rest made)
-    run_rests none over = record {
-      firings = made;
-      leads = run.leads;
-      going = run.going;
-      bounded = run.bounded;
-      ends = (refl, subst (λ (x : Moment M P). w.moves.trap x.marking ≡ None) run.leads none, subst (λ (x : Moment M P). IsOver w.moves x.marking) run.leads over);
-      writes = run.written;
-    }
+    run_rests none over = grind arith
 
     pub run_stops : made ≡ limit → {k : ℕ} → k ≡ w.choice made now → CanFire w.moves now.marking k → Plays w start limit show now old mid Limit
-    run_stops is {k} at can = record {
-      firings = made;
-      leads = run.leads;
-      going = run.going;
-      bounded = run.bounded;
-      ends = (is, subst (λ (x : Moment M P). CanFire w.moves x.marking (node_at w start made)) run.leads (subst (λ i. CanFire w.moves now.marking i) (at ∙ ap (w.choice made) run.leads) can));
-      writes = run.written;
-    }
+    run_stops is {k} at can = grind arith
 
 -- ---- what a system with an equal net tells
 
@@ -97,9 +63,7 @@ module _ {N M : Type 0} (moves : N → Moves M) {net other : N} (same : other �
     prefix_told is = subst (λ n. AppendsPrefix old new (shown_of (moves n) show m k)) same is
 
 pub moment_told : {N M P : Type 0} (moves : N → Moves M) (course : N → Course M P) {net other : N} {m then : M} (c : Option P) {later : Option P} {k : ℕ} → other ≡ net → then ≡ (moves other).fired m k → later ≡ steered (course other) m c k → moment then later ≡ moment ((moves net).fired m k) (steered (course net) m c k)
-moment_told moves course {net} {other} {m} {then} c {later} {k} same first second =
-    ap (λ x. moment x later) (first ∙ ap (λ n. (moves n).fired m k) same)
-    ∙ ap (λ x. moment ((moves net).fired m k) x) (second ∙ ap (λ n. steered (course n) m c k) same)
+moment_told moves course {net} {other} {m} {then} c {later} {k} same first second = cc
 
 pub same_moment : {M P : Type 0} {m then : M} {c later : Option P} → then ≡ m → later ≡ c → moment then later ≡ moment m c
 same_moment {m} {then} {c} {later} first second = ap (λ x. moment x later) first ∙ ap (λ x. moment m x) second

@@ -1,6 +1,6 @@
 -- A number that comes into a set, or goes.
-use Rattle.std.proofs.Common.{◌≡◌, ◌≢◌, ◌==◌, ℕ, zero, suc, ◌*◌, ◌/◌, ◌%◌, ◌<◌, ◌^◌, Bool, true, false, not, List, length, get_or, set, bit_and, bit_or, bit_xor, refl, sym, ap, subst, ◌∙◌, ⊎_elim, arith}
-use Rattle.std.proofs.lemmas.Bool.{cases_Bool, eqb-true}
+use Rattle.std.proofs.Common.{◌≡◌, ◌≢◌, ◌==◌, ℕ, ◌*◌, ◌/◌, ◌%◌, ◌<◌, ◌^◌, Bool, true, false, not, List, length, get_or, set, bit_and, bit_or, bit_xor, sym, ap, subst, ◌∙◌, arith}
+use Rattle.std.proofs.lemmas.Bool.{eqb-true}
 use Rattle.std.proofs.lemmas.List.{get_or_default, set-get_or}
 use Rattle.std.proofs.lemmas.Nat.{pow_pos, one_shl, or_disjoint}
 use Rattle.std.proofs.lemmas.Nat.Bits.{and_pow, bit_at-lt}
@@ -12,16 +12,7 @@ use Rattle.firing.specs.ReadySet.{has}
 use Rattle.firing.proofs.WordLemmas.{flipped, flips, has_flag, length_flags, length_seen}
 
 some_bit : (d power : ℕ) → d < 2 → 0 < power → not (d * power == 0) ≡ (d == 1)
-some_bit zero power lt some = let e : 0 * power ≡ 0 = omega arith in ap (λ n. not (n == 0)) e
-some_bit (suc zero) zero lt some = absurd (omega (arith, some))
-some_bit (suc zero) (suc n) lt some =
-    let e : 1 * suc n ≡ suc n = omega arith in
-    let positive : (suc n == 0) ≡ false = ⊎_elim
-    (λ (is : (suc n == 0) ≡ true). let zero_is : suc n ≡ 0 = eqb-true (suc n) 0 is in absurd cc)
-    (λ not_is. not_is)
-    (cases_Bool (suc n == 0)) in
-    ap (λ n. not (n == 0)) e ∙ ap not positive
-some_bit (suc (suc d)) power lt some = absurd (omega (arith, lt))
+some_bit h power lt some = grind (arith, eqb-true)
 
 -- the digit of a number, as the code reads it
 abbrev pub is_read : ℕ → ℕ → Bool
@@ -33,28 +24,17 @@ pub record Changes (flags : List Bool) (k : ℕ) (ready : Bool) : Type 0 where
   pub differs : has flags k ≢ ready
 
 not_same : (seen ready : Bool) → beq seen ready ≡ false → seen ≢ ready
-not_same true true e is = absurd cc
-not_same true false e is = absurd cc
-not_same false true e is = absurd cc
-not_same false false e is = absurd cc
+not_same h h2 e is = grind arith
 
 opposite : (a b : Bool) → a ≢ b → not a ≡ b
-opposite true true differ = absurd (differ refl)
-opposite true false differ = refl
-opposite false true differ = refl
-opposite false false differ = absurd (differ refl)
+opposite h h2 differ = grind arith
 
 same_bool : (a b : Bool) → beq a b ≡ true → a ≡ b
-same_bool true true is = refl
-same_bool true false is = absurd cc
-same_bool false true is = absurd cc
-same_bool false false is = refl
+same_bool h h2 is = grind arith
 
 -- a digit that is clear, as its flag tells
 clear : (d : ℕ) → d < 2 → (d == 1) ≡ false → d ≡ 0
-clear zero lt lacks = refl
-clear (suc zero) lt lacks = absurd cc
-clear (suc (suc d)) lt lacks = absurd (omega (arith, lt))
+clear h lt lacks = grind arith
 
 -- a set digit is put into a word that lacks it in either way
 or_is_xor : (word i : ℕ) → bit_at word i ≡ 0 → bit_or word (2 ^ i) ≡ bit_xor word (2 ^ i)
@@ -79,16 +59,10 @@ module _ (words : List ℕ) (room : ℕ) (value : List Bool) (are : AreWords wor
 
   flag_read : is_read word k ≡ has (flags_of words room) k
   flag_read =
-      ap (λ n. not (bit_and word n == 0)) one
-      ∙ ap (λ n. not (n == 0)) (and_pow word (k % 64))
-      ∙ some_bit (bit_at word (k % 64)) (2 ^ (k % 64)) (bit_at-lt word (k % 64)) (pow_pos (k % 64))
-      ∙ ap (λ w. bit_at w (k % 64) == 1) same_word
-      ∙ sym (has_flag words room k are)
+      grind (arith, bit_and word, one, and_pow word (k % 64), some_bit (bit_at word (k % 64)) (2 ^ (k % 64)) (bit_at-lt word (k % 64)) (pow_pos (k % 64)), bit_at-lt word (k % 64), pow_pos (k % 64), same_word, has_flag words room k are)
 
   pub stays : (ready : Bool) → beq (is_read word k) ready ≡ true → value ≡ set value k ready
-  stays ready test =
-      let same : has (flags_of words room) k ≡ ready = sym flag_read ∙ same_bool (is_read word k) ready test in
-      subst (λ flags. flags ≡ set flags k ready) seen (sym (set-get_or (flags_of words room) k false) ∙ ap (λ b. set (flags_of words room) k b) same)
+  stays ready test = grind (arith, flag_read, same_bool (is_read word k) ready test, set-get_or (flags_of words room) k false)
 
   in_flags : k < length (flags_of words room)
   in_flags = subst (λ n. k < n) (sym (length_flags words room)) inside
@@ -112,20 +86,14 @@ module _ (words : List ℕ) (room : ℕ) (value : List Bool) (are : AreWords wor
   written = ap (λ w. set words (k / 64) (bit_xor w (2 ^ (k % 64)))) (sym same_word) ∙ ap (λ n. set words (k / 64) (bit_xor word n)) (sym one)
 
   puts_at : (ready : Bool) (new : List ℕ) → flipped words k ≡ new → Changes (flags_of words room) k ready → Puts ready new
-  puts_at ready new is change =
-      let after = flips words room k are inside in
-      let other : not (digit_at words k) ≡ ready = opposite (digit_at words k) ready (subst (λ b. b ≢ ready) (has_flag words room k are) change.differs) in
-      let flags : flags_of new room ≡ set (flags_of words room) k ready = ap (λ ws. flags_of ws room) (sym is) ∙ after.flags ∙ ap (λ b. set (flags_of words room) k b) other in
-      record { new_words = subst (λ ws. AreWords ws room) is after.are; flags = flags; is = flags ∙ ap (λ xs. set xs k ready) seen }
+  puts_at ready new is change = grind (arith, flips words room k are inside, inside, opposite (digit_at words k) ready, has_flag words room k are)
 
   pub puts : (ready : Bool) → Changes (flags_of words room) k ready → Puts ready (set words (k / 64) (bit_xor word (1 * 2 ^ (k % 64) % 2 ^ 64)))
   puts ready change = puts_at ready (set words (k / 64) (bit_xor word (1 * 2 ^ (k % 64) % 2 ^ 64))) written change
 
   joined : has value k ≡ false → bit_xor word (1 * 2 ^ (k % 64) % 2 ^ 64) ≡ bit_or word (1 * 2 ^ (k % 64) % 2 ^ 64)
   joined out =
-      let flag : (bit_at (get_or words (k / 64) 0) (k % 64) == 1) ≡ false = sym (has_flag words room k are) ∙ ap (λ flags. has flags k) seen ∙ out in
-      let lacks : bit_at word (k % 64) ≡ 0 = ap (λ w. bit_at w (k % 64)) same_word ∙ clear (bit_at (get_or words (k / 64) 0) (k % 64)) (bit_at-lt (get_or words (k / 64) 0) (k % 64)) flag in
-      ap (bit_xor word) one ∙ sym (or_is_xor word (k % 64) lacks) ∙ sym (ap (bit_or word) one)
+      grind (arith, has_flag words room k are, same_word, clear (bit_at (get_or words (k / 64) 0) (k % 64)) (bit_at-lt (get_or words (k / 64) 0) (k % 64)), bit_at-lt (get_or words (k / 64) 0) (k % 64), bit_xor word, one, or_is_xor word (k % 64), bit_or word)
 
   pub puts_in : has value k ≡ false → Puts true (set words (k / 64) (bit_or word (1 * 2 ^ (k % 64) % 2 ^ 64)))
   puts_in out = puts_at true (set words (k / 64) (bit_or word (1 * 2 ^ (k % 64) % 2 ^ 64))) (written ∙ ap (λ w. set words (k / 64) w) (joined out)) (comes out)

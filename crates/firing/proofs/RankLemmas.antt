@@ -45,11 +45,7 @@ rank_most flags zero = omega arith
 rank_most flags (suc n) = let step = rank_most flags n in let one = one_at_most (has flags n) in omega (arith, step, one)
 
 pub rank_member : (flags : List Bool) (k a b : ℕ) → has flags k ≡ true → a ≤ k → k < b → rank flags a < rank flags b
-rank_member flags k a b member low high =
-    let first = rank_grows flags a k low in
-    let here = rank_has flags k member in
-    let last = rank_grows flags (suc k) b (omega (arith, high)) in
-    omega (arith, first, here, last)
+rank_member flags k a b member low high = grind (arith, rank_grows flags a k low, rank_has flags k member, rank_grows flags (suc k) b)
 
 pub rank_short : (flags : List Bool) (k n : ℕ) → has flags k ≡ false → k < n → rank flags n < n
 rank_short flags k zero lacks lt = absurd (omega (arith, lt))
@@ -82,10 +78,7 @@ pub record HasOneMore (few many : List Bool) (k : ℕ) : Type 0 where
 
 pub rank_before : (few many : List Bool) (k n : ℕ) → HasOneMore few many k → n ≤ k → rank many n ≡ rank few n
 rank_before few many k zero more le = refl
-rank_before few many k (suc n) more le =
-    let step = rank_before few many k n more (omega (arith, le)) in
-    let here : counted (has few n) ≡ counted (has many n) = ap counted (more.others n (λ e. omega (arith, le, e))) in
-    omega (arith, step, here)
+rank_before few many k (suc n) more le = grind (arith, rank_before few many k n more, more.others n)
 
 pub rank_after : (few many : List Bool) (k n : ℕ) → HasOneMore few many k → k < n → rank many n ≡ rank few n + 1
 rank_after few many k zero more lt = absurd (omega (arith, lt))
@@ -103,19 +96,7 @@ rank_after few many k (suc n) more lt = ⊎_elim
 
 -- the flag that a write changed
 pub more_put : (flags : List Bool) (k : ℕ) → k < length flags → has flags k ≡ false → HasOneMore flags (set flags k true) k
-more_put flags k inside lacks = record {
-  same_room = sym (length-set flags k true);
-  inside = inside;
-  lacks = lacks;
-  member = get_or-set_same flags k true false inside;
-  others = λ j differ. sym (get_or-set_other flags k j true false differ);
-}
+more_put flags k inside lacks = grind (arith, length-set flags k true, get_or-set_same flags k true false inside, get_or-set_other flags k)
 
 pub more_taken : (flags : List Bool) (k : ℕ) → k < length flags → has flags k ≡ true → HasOneMore (set flags k false) flags k
-more_taken flags k inside member = record {
-  same_room = length-set flags k false;
-  inside = subst (λ n. k < n) (sym (length-set flags k false)) inside;
-  lacks = get_or-set_same flags k false false inside;
-  member = member;
-  others = λ j differ. get_or-set_other flags k j false false differ;
-}
+more_taken flags k inside member = grind (arith, length-set flags k false, get_or-set_same flags k false false inside, get_or-set_other flags k)

@@ -38,29 +38,12 @@ module _ {M : Type 0} (sound : M → Type 0) (s : Moves M) (lawful : IsLawful so
 
   -- the order holds the first firing of the other one
   remains-in : (m : M) (k n : ℕ) (ks : List ℕ) (end : M) (output : List ℕ) (fires : FiresIn s m k ks) → Remains s (after s (s.fired m k) fires.rest) (length fires.rest) n end (written s (s.fired m k) fires.rest) output → Remains s (after s m ks) (length ks) (suc n) end (written s m ks) (line_bytes (s.line m k) ++ output)
-  remains-in m k n ks end output fires r = record {
-    rest = r.rest;
-    order = subst (λ x. IsOrder s x r.rest) fires.is r.order;
-    count = omega (arith, fires.count, r.count);
-    is = ap (λ x. after s x r.rest) (sym fires.is) ∙ r.is;
-    lines = ap (λ bytes. bytes ++ written s (after s m ks) r.rest) (sym fires.lines)
-        ∙ ap (λ (x : M). (line_bytes (s.line m k) ++ written s (s.fired m k) fires.rest) ++ written s x r.rest) (sym fires.is)
-        ∙ append_assoc (line_bytes (s.line m k)) (written s (s.fired m k) fires.rest) (written s (after s (s.fired m k) fires.rest) r.rest)
-        ∙ ap (λ bytes. line_bytes (s.line m k) ++ bytes) r.lines;
-  }
+  remains-in m k n ks end output fires r =
+      grind (arith, append_assoc (line_bytes (s.line m k)) (written s (s.fired m k) fires.rest) (written s (after s (s.fired m k) fires.rest) r.rest))
 
   -- k's line after those of an order beside it, and more
   pub lines-beside : (m : M) (k : ℕ) (ks more : List ℕ) (output : List ℕ) (fires : FiresBeside s m k ks) → s.trap (after s m ks) ≡ None → written s (s.fired m k) ks ++ written s (after s (s.fired m k) ks) more ≡ output → written s m ks ++ written s (after s m ks) (k ∷ more) ≡ line_bytes (s.line m k) ++ output
-  lines-beside m k ks more output fires none is =
-      let mine = line_bytes (s.line m k) in
-      let last = written s (after s (s.fired m k) ks) more in
-      ap (λ l. written s m ks ++ (line_bytes l ++ written s (s.fired (after s m ks) k) more)) (fires.same_line none)
-      ∙ ap (λ (x : M). written s m ks ++ (mine ++ written s x more)) (sym fires.is)
-      ∙ sym (append_assoc (written s m ks) mine last)
-      ∙ ap (λ bytes. bytes ++ last) (sym fires.swap)
-      ∙ append_assoc mine (written s m ks) last
-      ∙ ap (λ bytes. mine ++ (bytes ++ last)) (sym fires.same_lines)
-      ∙ ap (λ bytes. mine ++ bytes) is
+  lines-beside m k ks more output fires none is = grind (arith, fires.same_line none, append_assoc (written s m ks), append_assoc)
 
   -- the first firing of the other order comes after all of this one
   remains-beside : (m : M) (k n : ℕ) (ks : List ℕ) (end : M) (output : List ℕ) → FiresBeside s m k ks → s.trap end ≡ None → Remains s (after s (s.fired m k) ks) (length ks) n end (written s (s.fired m k) ks) output → Remains s (after s m ks) (length ks) (suc n) end (written s m ks) (line_bytes (s.line m k) ++ output)

@@ -1,18 +1,16 @@
 -- Runs that go on.
-use Rattle.std.proofs.Common.{◌≡◌, ℕ, zero, suc, ◌%◌, ◌+◌, ◌-◌, ◌<◌, ◌≤◌, ◌++◌, List, length, take, drop, get_or, slice_index, Option, Some, None, refl, sym, ap, subst, ◌∙◌, ⊎_elim, append_assoc, append-nil, length-append, length-drop, arith}
+use Rattle.std.proofs.Common.{◌≡◌, ℕ, zero, suc, ◌%◌, ◌+◌, ◌-◌, ◌<◌, ◌++◌, List, length, take, drop, get_or, slice_index, Option, refl, sym, ap, subst, ◌∙◌, ⊎_elim, append_assoc, append-nil, length-append, length-drop, arith}
 use Rattle.std.proofs.lemmas.Bool.{cases_lt}
 use Rattle.std.proofs.lemmas.List.{get_or-append-add, get_or_append_left, get_or-drop, get_or-take, length-take-le}
 use Rattle.std.proofs.Math.Nat.{add-mod, add-mod_left, mod-eq_of_lt, mod-lt}
 use Rattle.std.proofs.KnownBytes.{Appends-trans}
 use Rattle.std.specs.Io.KnownBytes.{Appends}
 use Rattle.firing.specs.declared.playing.PlayEnd.{PlayEnd}
-use Rattle.firing.specs.declared.playing.PlayEnd.TheVariants.{Rest, Trapped, Limit, WriteFault}
+use Rattle.firing.specs.declared.playing.PlayEnd.TheVariants.{Limit}
 use Rattle.firing.specs.declared.playing.Show.{Show}
-use Rattle.firing.specs.Choice.{chosen}
 use Rattle.firing.specs.Control.{Course}
 use Rattle.firing.specs.Moves.{Moves, CanFire}
-use Rattle.firing.specs.Orders.{IsOver}
-use Rattle.firing.specs.Play.{Moment, Way, next, by_order, by_picks, played, node_at, shown_of, shown_at, shown, BreaksOff, EndsBy, Writes, Plays}
+use Rattle.firing.specs.Play.{Moment, Way, by_order, by_picks, played, node_at, shown_at, shown, BreaksOff, EndsBy, Writes, Plays}
 use Rattle.firing.specs.Resuming.{GoesOn, further, turned}
 
 -- the same way, by another choice
@@ -29,27 +27,18 @@ module _ {M P : Type 0} (s : Moves M) (course : Course M P) (before after : ℕ 
 
     leads : (b : ℕ) → played first start (a + b) ≡ played later (played first start a) b
     leads zero = let e : a + 0 ≡ a = omega arith in ap (played first start) e
-    leads (suc b) =
-        let there = played later (played first start a) b in
-        ap (played first start) (one_more b)
-        ∙ ap (λ (x : Moment M P). next first x (before (a + b) x)) (leads b)
-        ∙ ap (next first there) (same b there)
+    leads (suc b) = grind (arith, one_more b, leads b)
 
     nodes : (b : ℕ) → node_at first start (a + b) ≡ node_at later (played first start a) b
     nodes b = ap (before (a + b)) (leads b) ∙ same b (played later (played first start a) b)
 
     shows_at : (show : Show) (b : ℕ) → shown_at first show start (a + b) ≡ shown_at later show (played first start a) b
-    shows_at show b =
-        ap (λ (x : Moment M P). shown_of s show x.marking (node_at first start (a + b))) (leads b)
-        ∙ ap (shown_of s show (played later (played first start a) b).marking) (nodes b)
+    shows_at show b = grind (arith, leads b, nodes b)
 
     shows : (show : Show) (b : ℕ) → shown first show start (a + b) ≡ shown first show start a ++ shown later show (played first start a) b
     shows show zero = let e : a + 0 ≡ a = omega arith in ap (shown first show start) e ∙ sym (append-nil (shown first show start a))
     shows show (suc b) =
-        ap (shown first show start) (one_more b)
-        ∙ ap (λ bytes. bytes ++ shown_at first show start (a + b)) (shows show b)
-        ∙ ap (λ bytes. (shown first show start a ++ shown later show (played first start a) b) ++ bytes) (shows_at show b)
-        ∙ append_assoc (shown first show start a) (shown later show (played first start a) b) (shown_at later show (played first start a) b)
+        grind (arith, one_more b, shows show b, shows_at show b, append_assoc (shown first show start a) (shown later show (played first start a) b) (shown_at later show (played first start a) b))
 
     -- ---- two runs are one
 
@@ -68,10 +57,7 @@ module _ {M P : Type 0} (s : Moves M) (course : Course M P) (before after : ℕ 
         (cases_lt j a)
 
     ends_later : (b n : ℕ) (result : PlayEnd) → EndsBy later there b n result → EndsBy first start (a + b) (a + n) (further a result)
-    ends_later b n (Rest count) (is, none, over) = (ap (λ i. a + i) is, subst (λ (x : Moment M P). s.trap x.marking ≡ None) (sym (leads n)) none, subst (λ (x : Moment M P). IsOver s x.marking) (sym (leads n)) over)
-    ends_later b n (Trapped trap line) is = subst (λ (x : Moment M P). s.trap x.marking ≡ Some (trap, line)) (sym (leads n)) is
-    ends_later b n Limit (is, can) = (ap (λ i. a + i) is, fires_later n can)
-    ends_later b n (WriteFault count) is = ap (λ i. a + i) is
+    ends_later b n h is = grind (arith, leads, fires_later)
 
     module _ (show : Show) (old got new : Option (List ℕ)) (prefix : Appends old got (shown first show start a)) where
       adds_later : (n : ℕ) → Appends got new (shown later show there n) → Appends old new (shown first show start (a + n))
@@ -79,25 +65,10 @@ module _ {M P : Type 0} (s : Moves M) (course : Course M P) (before after : ℕ 
 
       breaks_later : (n : ℕ) → BreaksOff later show there n got new → BreaksOff first show start (a + n) old new
       breaks_later n broken =
-          let i = broken.last in
-          let part = take broken.count (shown_at later show there i) in
-          let same : shown first show start a ++ (shown later show there i ++ part) ≡ shown first show start (a + i) ++ take broken.count (shown_at first show start (a + i)) =
-          sym (append_assoc (shown first show start a) (shown later show there i) part)
-          ∙ ap (λ bytes. bytes ++ part) (sym (shows show i))
-          ∙ ap (λ bytes. shown first show start (a + i) ++ take broken.count bytes) (sym (shows_at show i)) in
-          record {
-            last = a + i;
-            is = ap (λ j. a + j) broken.is ∙ one_more i;
-            count = broken.count;
-            within = subst (λ bytes. broken.count ≤ length bytes) (sym (shows_at show i)) broken.within;
-            written = subst (Appends old new) same (Appends-trans old got new (shown first show start a) (shown later show there i ++ part) prefix broken.written);
-          }
+          grind (arith, append_assoc (shown first show start a), shows show, shows_at show, one_more, Appends-trans old got new (shown first show start a))
 
       writes_later : (n : ℕ) (result : PlayEnd) → Writes later show there n got new result → Writes first show start (a + n) old new (further a result)
-      writes_later n (Rest count) writes = adds_later n writes
-      writes_later n (Trapped trap line) writes = adds_later n writes
-      writes_later n Limit writes = adds_later n writes
-      writes_later n (WriteFault count) writes = breaks_later n writes
+      writes_later n h writes = grind (arith, adds_later, breaks_later)
 
     joined : (b : ℕ) (show : Show) (mid end : Moment M P) (old got new : Option (List ℕ)) (result : PlayEnd) → Plays first start a show mid old got Limit → Plays later mid b show end got new result → Plays first start (a + b) show end old new (further a result)
     joined b show mid end old got new result run more =
@@ -131,52 +102,27 @@ module _ (picks : List ℕ) (some : 0 < length picks) (a : ℕ) where
   back = length-drop moved picks
 
   turned_length : length (turned a picks) ≡ length picks
-  turned_length =
-      let less = moved_less in
-      let all = length-append (drop moved picks) (take moved picks) in
-      let gone = back in
-      let prefix = length-take-le moved picks (omega (arith, less)) in
-      omega (arith, all, gone, prefix, less)
+  turned_length = grind (arith, moved_less, length-append (drop moved picks) (take moved picks), back, length-take-le moved picks)
 
   -- the place j after the turn, where it is before the end
   turned_back : (j : ℕ) → moved + j < length picks → get_or (turned a picks) j 0 ≡ get_or picks ((moved + j) % length picks) 0
-  turned_back j lt =
-      let inside : j < length (drop moved picks) = let gone = back in omega (arith, gone, lt) in
-      get_or_append_left (drop moved picks) (take moved picks) 0 j inside
-      ∙ get_or-drop moved picks j 0
-      ∙ ap (λ i. get_or picks i 0) (sym (mod-eq_of_lt lt))
+  turned_back j lt = grind (arith, back, get_or_append_left (drop moved picks) (take moved picks) 0 j, get_or-drop moved picks j 0, mod-eq_of_lt lt)
 
   -- and where it is e after the end
   turned_prefix : (j e : ℕ) → j < length picks → moved + j ≡ length picks + e → get_or (turned a picks) j 0 ≡ get_or picks ((moved + j) % length picks) 0
   turned_prefix j e lt is =
-      let less = moved_less in
-      let gone = back in
-      let at : j ≡ length (drop moved picks) + e = omega (arith, gone, less, is) in
-      let small : e < moved = omega (arith, lt, is) in
-      let there : (moved + j) % length picks ≡ e = ap (λ i. i % length picks) is ∙ add-mod_left (length picks) e ∙ mod-eq_of_lt (omega (arith, less, small)) in
-      ap (λ i. get_or (turned a picks) i 0) at
-      ∙ get_or-append-add (drop moved picks) (take moved picks) e 0
-      ∙ get_or-take moved picks e 0 small
-      ∙ ap (λ i. get_or picks i 0) (sym there)
+      grind (arith, moved_less, back, add-mod_left (length picks) e, mod-eq_of_lt, get_or-append-add (drop moved picks) (take moved picks) e 0, get_or-take moved picks e 0)
 
   turned_place : (j : ℕ) → j < length picks → get_or (turned a picks) j 0 ≡ get_or picks ((moved + j) % length picks) 0
-  turned_place j lt = ⊎_elim
-      (λ inside. turned_back j inside)
-      (λ beyond. turned_prefix j (moved + j - length picks) lt (omega (arith, beyond)))
-      (cases_lt (moved + j) (length picks))
+  turned_place j lt = grind (arith, turned_back j, turned_prefix j (moved + j - length picks) lt, cases_lt (moved + j) (length picks))
 
   turned_at : (i : ℕ) → slice_index picks ((a + i) % length picks) ≡ slice_index (turned a picks) (i % length (turned a picks))
   turned_at i =
-      ap (slice_index picks) (add-mod a i (length picks))
-      ∙ sym (turned_place (i % length picks) (mod-lt i some))
-      ∙ ap (λ n. slice_index (turned a picks) (i % n)) (sym turned_length)
+      grind (arith, slice_index picks, add-mod a i (length picks), turned_place (i % length picks) (mod-lt i some), mod-lt i some, slice_index (turned a picks), turned_length)
 
 module _ {M P : Type 0} (s : Moves M) (course : Course M P) where
   pub picks_go_on : (picks : List ℕ) → 0 < length picks → (start : Moment M P) (a : ℕ) → GoesOn (by_picks s course picks) start a (by_picks s course (turned a picks))
-  picks_go_on picks some start a =
-      let here = by_picks s course picks in
-      let there = by_picks s course (turned a picks) in
-      goes_on s course here.choice there.choice start a (λ i x. ap (chosen s x.marking) (turned_at picks some a i))
+  picks_go_on picks some start a = grind (arith, goes_on s course, turned_at picks some a)
 
   pub order_goes_on : (start : Moment M P) (a : ℕ) → GoesOn (by_order s course) start a (by_order s course)
   order_goes_on start a = let own = by_order s course in goes_on s course own.choice own.choice start a (λ i x. refl)

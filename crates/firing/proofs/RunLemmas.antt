@@ -5,9 +5,9 @@ use Rattle.std.specs.Io.KnownBytes.{Appends}
 use Rattle.df_io.specs.Write.{AppendsPrefix}
 use Rattle.op_table.specs.declared.Trap.{Trap}
 use Rattle.firing.specs.declared.playing.PlayEnd.{PlayEnd}
-use Rattle.firing.specs.declared.playing.PlayEnd.TheVariants.{Rest, Trapped, Limit, WriteFault}
+use Rattle.firing.specs.declared.playing.PlayEnd.TheVariants.{Rest, Trapped}
 use Rattle.firing.specs.declared.playing.Show.{Show}
-use Rattle.firing.specs.declared.playing.Show.TheVariants.{Output, Nodes, Nothing}
+use Rattle.firing.specs.declared.playing.Show.TheVariants.{Output}
 use Rattle.firing.specs.Laws.{IsLawful}
 use Rattle.firing.specs.Moves.{Moves, CanFire, line_bytes}
 use Rattle.firing.specs.Orders.{IsOrder, IsOver, IsWhole, Settles, Traps, after, written as written_by}
@@ -41,22 +41,10 @@ module _ {M P : Type 0} (w : Way M P) (start : Moment M P) where
   ordered : (n : ℕ) → ((j : ℕ) → j < n → CanFire w.moves (played w start j).marking (node_at w start j)) → Ordered w.moves start.marking n (played w start n).marking (shown w Output start n)
   ordered zero going = record { nodes = []; order = tt; count = refl; leads = refl; lines = refl }
   ordered (suc n) going =
-      let before = ordered n (λ j lt. going j (omega (arith, lt))) in
-      let k = node_at w start n in
-      record {
-        nodes = before.nodes ++ k ∷ [];
-        order = order_last w.moves start.marking before.nodes k before.order (subst (λ m. CanFire w.moves m k) (sym before.leads) (going n (omega arith)));
-        count = length-append before.nodes (k ∷ []) ∙ ap (λ i. i + 1) before.count ∙ add-one n;
-        leads = after_last w.moves start.marking before.nodes k ∙ ap (λ m. w.moves.fired m k) before.leads;
-        lines = lines_last w.moves start.marking before.nodes k
-            ∙ ap (λ bytes. bytes ++ line_bytes (w.moves.line (after w.moves start.marking before.nodes) k)) before.lines
-            ∙ ap (λ m. shown w Output start n ++ line_bytes (w.moves.line m k)) before.leads;
-      }
+      grind (arith, ordered n, order_last w.moves start.marking, length-append, add-one n, after_last w.moves start.marking, lines_last w.moves start.marking)
 
   pub order_of : (n : ℕ) → ((j : ℕ) → j < n → CanFire w.moves (played w start j).marking (node_at w start j)) → HasOrder w start n
-  order_of n going =
-      let all = ordered n going in
-      record { nodes = all.nodes; are = record { order = all.order; count = all.count; leads = all.leads; lines = all.lines } }
+  order_of n going = grind (arith, ordered n going)
 
 -- ---- what is written of a run as output
 
@@ -74,20 +62,12 @@ module _ {M P : Type 0} (w : Way M P) (start : Moment M P) where
       subst (λ i. AppendsPrefix old new (shown w Output start i)) (sym b.is) prefix
 
   writes_output : (show : Show) (n : ℕ) (old new : Option (List ℕ)) (result : PlayEnd) → Writes w show start n old new result → WritesOutput show (shown w Output start n) old new result
-  writes_output Output n old new (WriteFault count) writes = broken n old new writes
-  writes_output Output n old new (Rest count) writes = writes
-  writes_output Output n old new (Trapped trap line) writes = writes
-  writes_output Output n old new Limit writes = writes
-  writes_output Nodes n old new result writes = tt
-  writes_output Nothing n old new result writes = tt
+  writes_output h n old new result writes = grind (arith, broken)
 
 -- ---- what the laws say of a run
 
 counts : {M P : Type 0} (w : Way M P) (start : Moment M P) (limit n made : ℕ) (result : PlayEnd) → made ≡ n → n ≤ limit → EndsBy w start limit n result → Counts limit made result
-counts w start limit n made (Rest count) is le ends = is ∙ sym ends.0
-counts w start limit n made (Trapped trap line) is le ends = omega (arith, is, le)
-counts w start limit n made Limit is le ends = is ∙ ends.0
-counts w start limit n made (WriteFault count) is le ends = is ∙ sym ends
+counts w start limit n made h is le ends = grind arith
 
 module _ {M P : Type 0} {sound : M → Type 0} {w : Way M P} (lawful : IsLawful sound w.moves) {start : Moment M P} (is_sound : sound start.marking) {limit : ℕ} {show : Show} {end : Moment M P} {old new : Option (List ℕ)} where
   firings_of : {result : PlayEnd} (plays : Plays w start limit show end old new result) → Ordered w.moves start.marking plays.firings end.marking (shown w Output start plays.firings)
@@ -95,14 +75,7 @@ module _ {M P : Type 0} {sound : M → Type 0} {w : Way M P} (lawful : IsLawful 
 
   pub makes_order : {result : PlayEnd} → Plays w start limit show end old new result → MakesOrder w.moves start.marking limit show end.marking old new result
   makes_order {result} plays =
-      let all = firings_of plays in
-      record {
-        nodes = all.nodes;
-        count = counts w start limit plays.firings (length all.nodes) result all.count plays.bounded plays.ends;
-        order = all.order;
-        leads = all.leads;
-        written = subst (λ bytes. WritesOutput show bytes old new result) (sym all.lines) (writes_output w start show plays.firings old new result plays.writes);
-      }
+      grind (arith, firings_of plays, counts w start limit plays.firings, writes_output w start show plays.firings old new result plays.writes)
 
   pub rest_settles : {result : PlayEnd} → Plays w start limit show end old new result → (n : ℕ) → result ≡ Rest n → Settles w.moves start.marking n end.marking
   rest_settles plays n is =

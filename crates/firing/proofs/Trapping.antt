@@ -7,6 +7,7 @@ use Rattle.firing.specs.Moves.{Moves, CanFire, line_bytes}
 use Rattle.firing.specs.Orders.{IsOrder, IsWhole, Fails, Traps, after, written}
 use Rattle.firing.proofs.Pulling.{FiresIn, FiresBeside, are_ready, still, swapped, beside_trap, pulled}
 use Rattle.firing.proofs.Resting.{nothing_left, lines-beside}
+use Rattle.std.proofs.Common.{arith}
 
 module _ {M : Type 0} (s : Moves M) where
   -- nothing fires after a trap
@@ -28,12 +29,7 @@ module _ {M : Type 0} (s : Moves M) where
 
   -- the same with a line before it
   fails_after : (m : M) (trap : Trap × ℕ) (line before output : List ℕ) → Fails s m trap before output → Fails s m trap (line ++ before) (line ++ output)
-  fails_after m trap line before output fails = record {
-    rest = fails.rest;
-    order = fails.order;
-    trapped = fails.trapped;
-    lines = append_assoc line before (written s m fails.rest) ∙ ap (λ bytes. line ++ bytes) fails.lines;
-  }
+  fails_after m trap line before output fails = grind (arith, append_assoc line before (written s m fails.rest))
 
   no_more : (m : M) (rest before output : List ℕ) → rest ≡ [] → before ++ written s m rest ≡ output → before ≡ output
   no_more m rest before output none is = sym (append-nil before) ∙ ap (λ ks. before ++ written s m ks) (sym none) ∙ is
@@ -91,8 +87,7 @@ module _ {M : Type 0} (sound : M → Type 0) (s : Moves M) (lawful : IsLawful so
   -- Whatever has fired, the trap of another order can still come, with its output.
   pub fails : (m : M) (other ks : List ℕ) → sound m → IsOrder s m other → s.trap (after s m other) ≡ Some trap → IsOrder s m ks → Fails s (after s m ks) trap (written s m ks) (written s m other)
   fails m [] ks is_sound order traps mine =
-      let none = stopped s m ks (some_traps s (s.trap m) trap traps) mine in
-      fails_at s m (after s m ks) trap [] (written s m ks) [] (ap (after s m) (sym none)) (ap (written s m) (sym none)) (record { rest = []; order = tt; trapped = traps; lines = refl })
+      grind (arith, stopped s m ks (some_traps s (s.trap m) trap traps) mine, some_traps s (s.trap m) trap traps, fails_at s m (after s m ks) trap)
   fails m (k ∷ other) ks is_sound (can, order) traps mine = ⊎_elim (goes_on (λ apart first. fails (s.fired m k) other apart next order traps first)) ends (cases_trap s (s.trap (s.fired m k)))
     where
       output : List ℕ

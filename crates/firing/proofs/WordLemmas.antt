@@ -1,6 +1,6 @@
 -- Words of digits: what a change of one digit does, how many members a word has, and the way to one of its set digits.
-use Rattle.std.proofs.Common.{◌≡◌, ◌≢◌, ◌==◌, ℕ, zero, suc, ◌+◌, ◌*◌, ◌/◌, ◌%◌, ◌<◌, ◌≤◌, ◌^◌, Bool, true, false, not, List, length, get_or, set, replicate, bit_xor, count_ones, refl, sym, ap, subst, ◌∙◌, ⊎_elim, arith, length-set}
-use Rattle.std.proofs.lemmas.Bool.{cases_eq, cases_lt}
+use Rattle.std.proofs.Common.{◌≡◌, ◌≢◌, ◌==◌, ℕ, zero, suc, ◌+◌, ◌*◌, ◌/◌, ◌%◌, ◌<◌, ◌≤◌, ◌^◌, Bool, true, false, not, List, length, get_or, set, replicate, bit_xor, count_ones, sym, ap, subst, ◌∙◌, ⊎_elim, arith, length-set}
+use Rattle.std.proofs.lemmas.Bool.{cases_lt}
 use Rattle.std.proofs.lemmas.List.{ext_get_or, get_or_default, get_or_past, get_or-replicate, length-replicate, get_or-map, get_or-set_same, get_or-set_other, length-map}
 use Rattle.std.proofs.lemmas.List.FromFn.{length-map-range_with_len, get_or-map-range_with_len}
 use Rattle.std.proofs.lemmas.Nat.{pow_pos, mod-pow-add, mod_below, ones_cat}
@@ -11,6 +11,7 @@ use Rattle.firing.specs.BlockCounts.{AreWords, AreCounts, IsDigitAt, IsInBlock, 
 use Rattle.firing.specs.Orders.{counted}
 use Rattle.firing.specs.ReadySet.{IsMemberAt, has, member_count, rank}
 use Rattle.firing.proofs.CountLemmas.{block_few, zeros}
+use Rattle.std.proofs.lemmas.Grind.{elements}
 
 -- ---- flags and digits
 
@@ -25,17 +26,12 @@ pub large_seen : (n : ℕ) (words : List ℕ) (room : ℕ) (value : List Bool) �
 large_seen n words room value seen many = subst (λ set. n < length set) (sym seen) many
 
 pub has_flag : (words : List ℕ) (room k : ℕ) → AreWords words room → has (flags_of words room) k ≡ digit_at words k
-has_flag words room k are = ⊎_elim
-    (λ (lt : k < room). get_or-map-range_with_len (digit_at words) 0 room k k false lt (omega arith))
-    (λ (le : room ≤ k). get_or_past (flags_of words room) k false (subst (λ n. n ≤ k) (sym (length_flags words room)) le) ∙ sym (are.past k le))
-    (cases_lt k room)
+has_flag words room k are = grind (arith, get_or-map-range_with_len (digit_at words) 0, get_or_past, length_flags words)
 
 -- ---- one digit that changes
 
 toggled : (d : ℕ) → d < 2 → ((d + 1) % 2 == 1) ≡ not (d == 1)
-toggled zero lt = refl
-toggled (suc zero) lt = refl
-toggled (suc (suc d)) lt = absurd (omega (arith, lt))
+toggled h lt = grind arith
 
 kept : (d : ℕ) → d < 2 → (d + 0) % 2 ≡ d
 kept d lt = omega (arith, lt)
@@ -49,28 +45,16 @@ module _ (words : List ℕ) (k : ℕ) (inside : k / 64 < length words) where
   flipped_here = get_or-set_same words (k / 64) (bit_xor (get_or words (k / 64) 0) (2 ^ (k % 64))) 0 inside
 
   pub flip_same : digit_at (flipped words k) k ≡ not (digit_at words k)
-  flip_same =
-      let w = get_or words (k / 64) 0 in
-      let bits : bit_at (get_or (flipped words k) (k / 64) 0) (k % 64) ≡ (bit_at w (k % 64) + 1) % 2 =
-      ap (λ n. bit_at n (k % 64)) flipped_here ∙ bit_at_xor w (2 ^ (k % 64)) (k % 64) ∙ ap (λ n. (bit_at w (k % 64) + n) % 2) (bit_at-pow_same (k % 64)) in
-      ap (λ n. n == 1) bits ∙ toggled (bit_at w (k % 64)) (bit_at-lt w (k % 64))
+  flip_same = grind (arith, flipped_here, bit_at_xor, bit_at-pow_same (k % 64), toggled, bit_at-lt)
 
   other_word : (j : ℕ) → j / 64 ≢ k / 64 → digit_at (flipped words k) j ≡ digit_at words j
   other_word j differ = ap (λ n. bit_at n (j % 64) == 1) (get_or-set_other words (k / 64) (j / 64) (bit_xor (get_or words (k / 64) 0) (2 ^ (k % 64))) 0 differ)
 
   same_word : (j : ℕ) → j / 64 ≡ k / 64 → j % 64 ≢ k % 64 → digit_at (flipped words k) j ≡ digit_at words j
-  same_word j same differ =
-      let w = get_or words (k / 64) 0 in
-      let here : get_or (flipped words k) (j / 64) 0 ≡ bit_xor w (2 ^ (k % 64)) = ap (λ b. get_or (flipped words k) b 0) same ∙ flipped_here in
-      let bits : bit_at (get_or (flipped words k) (j / 64) 0) (j % 64) ≡ bit_at w (j % 64) =
-      ap (λ n. bit_at n (j % 64)) here ∙ bit_at_xor w (2 ^ (k % 64)) (j % 64) ∙ ap (λ n. (bit_at w (j % 64) + n) % 2) (bit_at-pow_other (k % 64) (j % 64) differ) ∙ kept (bit_at w (j % 64)) (bit_at-lt w (j % 64)) in
-      ap (λ n. n == 1) (bits ∙ ap (λ b. bit_at (get_or words b 0) (j % 64)) (sym same))
+  same_word j same differ = grind (arith, bit_xor, flipped_here, bit_at_xor, bit_at-pow_other (k % 64) (j % 64) differ, kept, bit_at-lt)
 
   pub flip_other : (j : ℕ) → j ≢ k → digit_at (flipped words k) j ≡ digit_at words j
-  flip_other j differ = ⊎_elim
-      (λ (same : j / 64 ≡ k / 64). same_word j same (λ e. differ (omega (arith, same, e))))
-      (λ apart. other_word j apart)
-      (cases_eq (j / 64) (k / 64))
+  flip_other j differ = grind (arith, same_word, other_word)
 
 -- the words after a change, and their flags
 pub record Flips (words : List ℕ) (room k : ℕ) : Type 0 where
@@ -78,29 +62,8 @@ pub record Flips (words : List ℕ) (room k : ℕ) : Type 0 where
   pub flags : flags_of (flipped words k) room ≡ set (flags_of words room) k (not (digit_at words k))
 
 pub flips : (words : List ℕ) (room k : ℕ) → AreWords words room → k < room → Flips words room k
-flips words room k are lt = record {
-  are = after;
-  flags = ext_get_or false (flags_of (flipped words k) room) (set (flags_of words room) k (not (digit_at words k)))
-      (length_flags (flipped words k) room ∙ sym (length-set (flags_of words room) k (not (digit_at words k)) ∙ length_flags words room))
-      (λ i _. has_flag (flipped words k) room i after ∙ each i);
-}
-  where
-    inside : k / 64 < length words
-    inside = let covered = are.covered in omega (arith, covered, lt)
-
-    after : AreWords (flipped words k) room
-    after = record {
-      room_fits = are.room_fits;
-      covered = let covered = are.covered in let same = length-set words (k / 64) (bit_xor (get_or words (k / 64) 0) (2 ^ (k % 64))) in omega (arith, covered, same);
-      past = λ j le. flip_other words k inside j (λ e. omega (arith, lt, le, e)) ∙ are.past j le;
-    }
-
-    each : (i : ℕ) → digit_at (flipped words k) i ≡ has (set (flags_of words room) k (not (digit_at words k))) i
-    each i = ⊎_elim
-        (λ (same : i ≡ k). subst (λ n. digit_at (flipped words k) n ≡ has (set (flags_of words room) k (not (digit_at words k))) n) (sym same)
-        (flip_same words k inside ∙ sym (get_or-set_same (flags_of words room) k (not (digit_at words k)) false (subst (λ n. k < n) (sym (length_flags words room)) lt))))
-        (λ differ. flip_other words k inside i differ ∙ sym (has_flag words room i are) ∙ sym (get_or-set_other (flags_of words room) k i (not (digit_at words k)) false differ))
-        (cases_eq i k)
+flips words room k are lt =
+    grind (arith, ext_get_or false, length_flags, length-set (flags_of words room), length_flags words room, has_flag, length-set words, bit_xor, flip_other words, flip_same words, get_or-set_same (flags_of words room), has_flag words room, get_or-set_other (flags_of words room))
 
 -- ---- the members of a word
 
@@ -111,40 +74,24 @@ pub one_set : count_ones 1 ≡ 1
 one_set = ones-ones 1
 
 digit_counts : (d : ℕ) → d < 2 → count_ones d ≡ d
-digit_counts zero lt = none_set
-digit_counts (suc zero) lt = one_set
-digit_counts (suc (suc d)) lt = absurd (omega (arith, lt))
+digit_counts h lt = grind (arith, none_set, one_set)
 
 -- one digit more
 ones_more : (w i : ℕ) → count_ones (w % 2 ^ suc i) ≡ count_ones (w % 2 ^ i) + bit_at w i
 ones_more w i =
-    let next : 1 + i ≡ suc i = omega arith in
-    let low = ones_cat i (bit_at w i) (w % 2 ^ i) (mod_below w (2 ^ i) (pow_pos i)) in
-    let digit = digit_counts (bit_at w i) (bit_at-lt w i) in
-    let split : count_ones (w % 2 ^ suc i) ≡ count_ones (bit_at w i * 2 ^ i + w % 2 ^ i) = ap (λ n. count_ones (w % 2 ^ n)) (sym next) ∙ ap count_ones (mod-pow-add w 1 i) in
-    omega (arith, split, low, digit)
+    grind (arith, ones_cat i (bit_at w i) (w % 2 ^ i) (mod_below w (2 ^ i) (pow_pos i)), mod_below w (2 ^ i) (pow_pos i), pow_pos i, digit_counts (bit_at w i) (bit_at-lt w i), bit_at-lt w i, count_ones, count_ones (bit_at w i * 2 ^ i + w % 2 ^ i), mod-pow-add w 1 i)
 
 counts_digit : (d : ℕ) → d < 2 → counted (d == 1) ≡ d
-counts_digit zero lt = refl
-counts_digit (suc zero) lt = refl
-counts_digit (suc (suc d)) lt = absurd (omega (arith, lt))
+counts_digit h lt = grind arith
 
 module _ (words : List ℕ) (room : ℕ) (are : AreWords words room) where
   here : (b i : ℕ) → i < 64 → counted (has (flags_of words room) (64 * b + i)) ≡ bit_at (get_or words b 0) i
   here b i lt =
-      let block : (64 * b + i) / 64 ≡ b = omega (arith, lt) in
-      let digit : (64 * b + i) % 64 ≡ i = omega (arith, lt) in
-      ap counted (has_flag words room (64 * b + i) are ∙ ap (λ n. bit_at (get_or words n 0) ((64 * b + i) % 64) == 1) block ∙ ap (λ n. bit_at (get_or words b 0) n == 1) digit)
-      ∙ counts_digit (bit_at (get_or words b 0) i) (bit_at-lt (get_or words b 0) i)
+      grind (arith, has_flag words room (64 * b + i) are, counts_digit (bit_at (get_or words b 0) i) (bit_at-lt (get_or words b 0) i), bit_at-lt (get_or words b 0) i)
 
   -- the members below a digit of a word
   pub rank_in : (b i : ℕ) → i ≤ 64 → rank (flags_of words room) (64 * b + i) ≡ rank (flags_of words room) (64 * b) + count_ones (get_or words b 0 % 2 ^ i)
-  rank_in b zero le =
-      let w = get_or words b 0 in
-      let place : 64 * b + 0 ≡ 64 * b = omega arith in
-      let none : count_ones (w % 2 ^ 0) ≡ 0 = let e : w % 1 ≡ 0 = omega arith in ap count_ones e ∙ none_set in
-      let same : rank (flags_of words room) (64 * b + 0) ≡ rank (flags_of words room) (64 * b) = ap (rank (flags_of words room)) place in
-      omega (arith, same, none)
+  rank_in b zero le = grind (arith, count_ones, none_set)
   rank_in b (suc i) le =
       let w = get_or words b 0 in
       let step = rank_in b i (omega (arith, le)) in
@@ -158,16 +105,7 @@ module _ (words : List ℕ) (room : ℕ) (are : AreWords words room) where
   ones_at b inside = get_or-map count_ones words b 0 0 inside
 
   pub word_counts : ((b : ℕ) → get_or words b 0 < 2 ^ 64) → AreCounts 64 (ones_of words) (flags_of words room)
-  word_counts fits = record {
-    covered = let covered = are.covered in let many : length (ones_of words) ≡ length words = length-map words count_ones in let room_is = length_flags words room in omega (arith, covered, many, room_is);
-    counted = λ b inside.
-        let w = get_or words b 0 in
-        let all = rank_in b 64 (omega arith) in
-        let whole : w % 2 ^ 64 ≡ w = let small = fits b in omega (arith, small) in
-        let ones : count_ones (w % 2 ^ 64) ≡ count_ones w = ap count_ones whole in
-        let at = ones_at b (let many : length (ones_of words) ≡ length words = length-map words count_ones in omega (arith, inside, many)) in
-        omega (arith, all, ones, at);
-  }
+  word_counts fits = grind (arith, length-map words count_ones, count_ones, length_flags words room, rank_in, ones_at)
 
 pub length_ones : (words : List ℕ) → length (ones_of words) ≡ length words
 length_ones words = length-map words count_ones
@@ -180,20 +118,10 @@ word_counts_of slice words room value is seen are fits = subst (λ set. AreCount
 
 module _ (words : List ℕ) (room : ℕ) (are : AreWords words room) (place b left word : ℕ) (within : place < member_count (flags_of words room)) (block : IsInBlock (flags_of words room) 64 place b left) (read : word ≡ get_or words b word) where
   same_read : word ≡ get_or words b 0
-  same_read =
-      let few = block_few (flags_of words room) 64 place b left within block in
-      let room_is = length_flags words room in
-      let covered = are.covered in
-      read ∙ get_or_default words b word 0 (omega (arith, few, room_is, covered))
+  same_read = grind (arith, block_few (flags_of words room) 64 place b left within block, length_flags words room, get_or_default words b word 0)
 
   short : word < 2 ^ 64 → left < count_ones word
-  short fits =
-      let all = rank_in words room are b 64 (omega arith) in
-      let whole : get_or words b 0 % 2 ^ 64 ≡ word = let e = same_read in omega (arith, fits, e) in
-      let ones : count_ones (get_or words b 0 % 2 ^ 64) ≡ count_ones word = ap count_ones whole in
-      let start = block.start in
-      let end = block.end in
-      omega (arith, all, ones, start, end)
+  short fits = grind (arith, rank_in words room are b 64, same_read, count_ones, count_ones word)
 
   finds : (digit : ℕ) → IsDigitAt word left digit → IsMemberAt (flags_of words room) place (64 * b + digit)
   finds digit at =
@@ -229,11 +157,7 @@ no_digit : (n k : ℕ) → digit_at (replicate n 0) k ≡ false
 no_digit n k = ap (λ w. bit_at w (k % 64) == 1) (zeros n (k / 64)) ∙ ap (λ d. d == 1) (bit_at-zero (k % 64))
 
 pub empty_words : (room : ℕ) → room < 2 ^ 32 → AreWords (replicate (room / 64 + 1) 0) room
-empty_words room fits = record {
-  room_fits = fits;
-  covered = let many : length (replicate {A = ℕ} (room / 64 + 1) 0) ≡ room / 64 + 1 = length-replicate (room / 64 + 1) 0 in omega (arith, many);
-  past = λ k le. no_digit (room / 64 + 1) k;
-}
+empty_words room fits = grind (arith, elements, no_digit)
 
 pub empty_flags : (n room : ℕ) → flags_of (replicate n 0) room ≡ replicate room false
 empty_flags n room = ext_get_or false (flags_of (replicate n 0) room) (replicate room false)

@@ -14,3 +14,4 @@ pub mod ReadySet
 pub mod Resuming
 pub mod Runs
 pub mod SourceOrder
+pub mod OrderLaws

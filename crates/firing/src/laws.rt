@@ -1,16 +1,12 @@
 // What every order of firing has in common, as contracts of a function that does nothing.
 
-ghost use Rattle.std.specs.Prelude.{◌≡◌, ◌≢◌, ◌<◌, ◌≤◌, ℕ, List, Some, None, length};
-ghost use Rattle.op_table.specs.declared.Trap.{Trap};
+ghost use Rattle.std.specs.Prelude.{◌≢◌, ℕ, List, None};
 ghost use Rattle.firing.specs.Control.{IsInStep};
 ghost use Rattle.firing.specs.declared.playing.PlayEnd.{PlayEnd};
-ghost use Rattle.firing.specs.Moves.{CanFire};
-ghost use Rattle.firing.specs.Orders.{WritesPrefixOf, IsOrder, IsOver, IsWhole, Settles, Traps, after, serial_count};
-ghost use Rattle.firing.specs.Pacing.{FollowsSource, IsSimulation, Stage};
-ghost use Rattle.firing.specs.Play.{Moment, Way, by_order, by_picks, moment, node_at, played};
-ghost use Rattle.firing.specs.Resuming.{GoesOn, turned};
+ghost use Rattle.firing.specs.OrderLaws.{OrdersRestAlike, OrdersTrapAlike, ShorterOrdersWritePrefixes, OrdersFollowSources, DueOrdersEnd, RunsByPicksGoOn, RunsHaveOneEnd, RunsAreLongest};
+ghost use Rattle.firing.specs.Play.{Moment, Way, by_order, by_picks};
+ghost use Rattle.firing.specs.Resuming.{GoesOn};
 ghost use Rattle.firing.specs.Runs.{HasEnd, HasOrder, IsRun};
-ghost use Rattle.firing.specs.SourceOrder.{IsDueOrder};
 
 use crate::{SourceOrder, StepSystem};
 
@@ -18,9 +14,9 @@ use crate::{SourceOrder, StepSystem};
 /// one traps, none ends without that trap, and each that ends has the same output. Of two orders the one with
 /// no more serial firings writes a prefix of what the other writes, where that one doesn't trap.
 pub fn every_order<S: StepSystem>()
-    ensures rest { (net : S.Net) (m : S.Marking) (ks : List ℕ) → S.sound net m → IsWhole (S.moves net) m ks → (S.moves net).trap (after (S.moves net) m ks) ≡ None → Settles (S.moves net) m (length ks) (after (S.moves net) m ks) }
-    ensures trap { (net : S.Net) (m : S.Marking) (ks : List ℕ) (trap : Trap) (line : ℕ) → S.sound net m → IsOrder (S.moves net) m ks → (S.moves net).trap (after (S.moves net) m ks) ≡ Some (trap, line) → Traps (S.moves net) m (trap, line) }
-    ensures prefix { (net : S.Net) (m : S.Marking) (ks others : List ℕ) → S.sound net m → IsOrder (S.moves net) m ks → IsOrder (S.moves net) m others → (S.moves net).trap (after (S.moves net) m others) ≡ None → serial_count (S.moves net) ks ≤ serial_count (S.moves net) others → WritesPrefixOf (S.moves net) m ks others }
+    ensures rest { (net : S.Net) → OrdersRestAlike (S.sound net) (S.moves net) }
+    ensures trap { (net : S.Net) → OrdersTrapAlike (S.sound net) (S.moves net) }
+    ensures prefix { (net : S.Net) → ShorterOrdersWritePrefixes (S.sound net) (S.moves net) }
 {}
 
 /// Where one order stays in lockstep with a source that is given by its output and stage after each number of steps, every order
@@ -28,14 +24,14 @@ pub fn every_order<S: StepSystem>()
 /// many firings and at the same marking, and it traps only where the source has trapped, with the same trap and output.
 /// Where the source ends, every order comes to rest; where it traps, none ends otherwise.
 pub fn every_order_follows<S: StepSystem>()
-    ensures { (net : S.Net) (start : S.Marking) (text : ℕ → List ℕ) (stage : ℕ → Stage) (own : ℕ → List ℕ) → S.sound net start → IsSimulation (S.moves net) start text stage own → FollowsSource (S.moves net) start text stage own }
+    ensures { (net : S.Net) → OrdersFollowSources (S.sound net) (S.moves net) }
 {}
 
 /// A run that was stopped can go on. After the first a firings a run by picks goes on as a run from there by the picks
 /// turned by a, and a run in the source's own order as such a run from there. So a run that stopped at the limit a and one
 /// from there up to a limit b are one run up to the limit a + b.
 pub fn runs_go_on<S: StepSystem>()
-    ensures picks { (net : S.Net) (picks : List ℕ) (start : Moment S.Marking S.Place) (a : ℕ) → 0 < length picks → GoesOn (by_picks (S.moves net) (S.course net) picks) start a (by_picks (S.moves net) (S.course net) (turned a picks)) }
+    ensures picks { (net : S.Net) → RunsByPicksGoOn (S.moves net) (S.course net) }
     ensures order { (net : S.Net) (start : Moment S.Marking S.Place) (a : ℕ) → GoesOn (by_order (S.moves net) (S.course net)) start a (by_order (S.moves net) (S.course net)) }
 {}
 
@@ -45,12 +41,12 @@ pub fn runs_go_on<S: StepSystem>()
 pub fn runs_end<S: SourceOrder>()
     ensures picks { (net : S.Net) (picks : List ℕ) (start : Moment S.Marking S.Place) (limit : ℕ) → HasEnd (by_picks (S.moves net) (S.course net) picks) start limit }
     ensures order { (net : S.Net) (start : Moment S.Marking S.Place) (limit : ℕ) → S.sound net start.marking → IsInStep (S.moves net) (S.in_step net) start.marking start.control → start.control ≢ None → HasEnd (by_order (S.moves net) (S.course net)) start limit }
-    ensures one { (w : Way S.Marking S.Place) (start : Moment S.Marking S.Place) (limit n m : ℕ) (end other : PlayEnd) → IsRun w start limit n end → IsRun w start limit m other → (n ≡ m) × (end ≡ other) }
-    ensures longest { (w : Way S.Marking S.Place) (start : Moment S.Marking S.Place) (limit n m : ℕ) (end : PlayEnd) → IsRun w start limit m end → n ≤ limit → ((j : ℕ) → j < n → CanFire w.moves (played w start j).marking (node_at w start j)) → n ≤ m }
+    ensures one { RunsHaveOneEnd S.Marking S.Place }
+    ensures longest { RunsAreLongest S.Marking S.Place }
     ensures nodes { (w : Way S.Marking S.Place) (start : Moment S.Marking S.Place) (limit n : ℕ) (end : PlayEnd) → IsRun w start limit n end → HasOrder w start n }
 {}
 
 /// Where the nodes that are due come to an end within the limit, a run in the source's own order doesn't stop at the limit.
 pub fn due_orders_end<S: SourceOrder>()
-    ensures { (net : S.Net) (m : S.Marking) (p : S.Place) (ks : List ℕ) (limit n : ℕ) (end : PlayEnd) → IsDueOrder (S.moves net) (S.course net) m p ks → IsOver (S.moves net) (after (S.moves net) m ks) → length ks ≤ limit → IsRun (by_order (S.moves net) (S.course net)) (moment m (Some p)) limit n end → end ≢ PlayEnd.Limit }
+    ensures { (net : S.Net) → DueOrdersEnd (S.moves net) (S.course net) }
 {}

@@ -10,3 +10,4 @@ pub mod Recovered
 pub mod Shown
 pub mod Text
 pub mod Typeset
+pub mod FlatLaws

@@ -1,5 +1,5 @@
 -- The printed text of a flat program: its declarations, and then its statements.
-use Rattle.std.specs.Prelude.{ℕ, Bool, if◌then◌else◌, List, [], ◌∷◌, ◌++◌, length, map, flat_map, Option, Some, None, slice_get}
+use Rattle.std.specs.Prelude.{ℕ, Bool, if◌then◌else◌, List, [], ◌∷◌, ◌++◌, length, map, flat_map, Option, Some, None, slice_get, ◌≡◌, false}
 use Rattle.std.specs.List.{range_with_len, list_any}
 use Rattle.f77_tree.specs.declared.programs.NameInfo.{NameInfo}
 use Rattle.f77_tree.specs.declared.programs.Program.{Program}
@@ -35,3 +35,7 @@ text q flat = flat_map lines_of (statements q flat)
 -- whether some statement is longer or deeper than one that is read may be
 abbrev pub has_long_text : Program → List FlatLine → Bool
 has_long_text q flat = list_any is_long (statements q flat)
+
+-- the text, unless a statement of it is too long
+abbrev pub IsTextUnlessLong : Program → List FlatLine → List ℕ → Type 0
+IsTextUnlessLong p flat bytes = (has_long_text p flat ≡ false) × (bytes ≡ text p flat)

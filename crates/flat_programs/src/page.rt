@@ -6,7 +6,7 @@ ghost use Rattle.flat_programs.specs.FlatForm.{AreProper, AreStatementsOf, IsFla
 ghost use Rattle.flat_programs.specs.Marks.{is_mark as is_mark_of};
 ghost use Rattle.flat_programs.specs.Declarations.{common_at, commons, group_statement, init_statement, typed_name};
 ghost use Rattle.flat_programs.specs.Pages.{Grows, IsPage};
-ghost use Rattle.flat_programs.specs.Text.{has_long_text as is_long_somewhere, statements, text as text_of, typeset_at, unlabelled};
+ghost use Rattle.flat_programs.specs.Text.{has_long_text as is_long_somewhere, statements, text as text_of, typeset_at, unlabelled, IsTextUnlessLong};
 
 use crate::declarations::{append_common, append_group, append_init, append_typed, is_continued};
 use crate::flow::is_mark;
@@ -58,7 +58,7 @@ pub fn print_unless_long(
 ) -> Result<Option<Vec<u8>>, NoMemory>
     requires proper { AreProper p.now.names flat.now }
     requires short { length flat.now < 4294967295 }
-    ensures { IfOk result (λ text. MatchOption text (is_long_somewhere p.now flat.now ≡ true) (λ bytes. (is_long_somewhere p.now flat.now ≡ false) × (bytes.items ≡ text_of p.now flat.now))) }
+    ensures { IfOk result (λ text. MatchOption text (is_long_somewhere p.now flat.now ≡ true) (λ bytes. IsTextUnlessLong p.now flat.now bytes.items)) }
 {
     let page = page_of(alloc, p, flat)?;
     if page.is_long {

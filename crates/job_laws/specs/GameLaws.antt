@@ -15,6 +15,10 @@ use Rattle.firing.specs.SourceOrder.{IsDueOrder}
 use Rattle.dfc_jobs.specs.Game.{GameKind, IsGameOn, Place}
 use Rattle.job_laws.specs.Headline.{bound_of}
 use Rattle.dfc_jobs.specs.Playing.{Game, StaysInLockstep, opening}
+use Rattle.dfc_jobs.specs.declared.task.Told.{Told}
+use Rattle.dfc_jobs.specs.Tasks.{Asked}
+use Rattle.dfc_jobs.specs.Due.{IsDuePlay}
+use Rattle.job_laws.specs.Existence.{HasDue}
 
 -- from where the run of a program has stopped, it stopped first at some step
 abbrev pub StopFirst : Type 0
@@ -39,3 +43,7 @@ pub record GameLaws {M : Type 0} (kind : GameKind M) : Type 0 where
   -- after the firings of so many steps in the source's own order the store is that of the program
   pub store : (p : Program) (words : List ℤ) (game : Game M Place) (steps : ℕ) → IsGameOn kind p words game → kind.store (after game.moves game.start (game.own_order steps)) ≡ (source p words steps).memory.store
   pub stop_first : StopFirst
+
+-- something is due of each game of a program over data, whatever its limit, its picks and what is told of it
+abbrev pub GamesAreDue : {M : Type 0} → GameKind M → Type 0
+GamesAreDue {M = M} kind = (p : Program) (what : Told) (asked : Asked) (game : Game M Place) → IsGameOn kind p asked.input game → HasDue (IsDuePlay kind what asked p)

@@ -4,13 +4,9 @@ ghost use Rattle.std.specs.Prelude.{Bool};
 ghost use Rattle.f77_tree.specs.declared.programs.Program.{Program};
 ghost use Rattle.f77_tree.specs.WellFormed.{IsWellFormed};
 ghost use Rattle.dfc_jobs.specs.declared.task.Told.{Told};
-ghost use Rattle.fork_board.specs.ForkTokens.{ForkTokens};
-ghost use Rattle.dfc_jobs.specs.Due.{IsDuePlay};
-ghost use Rattle.dfc_jobs.specs.Game.{IsGameOn, Marking, Place, fork_game, operation_game};
-ghost use Rattle.dfc_jobs.specs.Playing.{Game};
+ghost use Rattle.dfc_jobs.specs.Game.{fork_game, operation_game};
 ghost use Rattle.dfc_jobs.specs.Tasks.{Asked, Forks, Play};
-ghost use Rattle.job_laws.specs.Existence.{HasDue};
-ghost use Rattle.job_laws.specs.GameLaws.{GameLaws};
+ghost use Rattle.job_laws.specs.GameLaws.{GameLaws, GamesAreDue};
 ghost use Rattle.job_laws.specs.Headline.{MeansOn};
 ghost use Rattle.job_laws.specs.SourceRuns.{run_of};
 
@@ -79,7 +75,7 @@ fn fork_game_laws()
 
 /// Something is due of each game of a program over data, whatever its limit, its picks and what is told of it.
 pub fn games_are_due()
-    ensures { (p : Program) (what : Told) (asked : Asked) (game : Game Marking Place) → IsGameOn operation_game p asked.input game → HasDue (IsDuePlay operation_game what asked p) }
+    ensures { GamesAreDue operation_game }
 {
     runs_end::<OpNet<'static, CLASS_WORDS>>();
     operation_nets_begin_soundly();
@@ -89,7 +85,7 @@ pub fn games_are_due()
 
 /// So it is with the games in which the loads of a group fire in any order.
 pub fn forks_are_due()
-    ensures { (p : Program) (what : Told) (asked : Asked) (game : Game ForkTokens Place) → IsGameOn fork_game p asked.input game → HasDue (IsDuePlay fork_game what asked p) }
+    ensures { GamesAreDue fork_game }
 {
     runs_end::<ForkNet<'static, CLASS_WORDS>>();
     forks_begin_soundly();

@@ -14,3 +14,4 @@ pub mod TokenEdges
 pub mod ControlPlaces
 pub mod WokenNodes
 pub mod Simulation
+pub mod NetLaws

@@ -1,20 +1,17 @@
 //! Laws of the firings of nets, and of their parts, as contracts of functions that do nothing.
 
-ghost use Rattle.std.specs.Prelude.{ℕ, ℤ, List, Bool, All};
-ghost use Rattle.op_table.specs.Words.{IsWord};
+ghost use Rattle.std.specs.Prelude.{ℕ, Bool};
 ghost use Rattle.f77_tree.specs.declared.programs.Program.{Program};
 ghost use Rattle.cfg_build.specs.Joined.{FlowGraph};
 ghost use Rattle.dep_routing.specs.Routing.{Routing};
 ghost use Rattle.firing.specs.Laws.{IsLawful};
-ghost use Rattle.firing.specs.Marks.{Wakes};
-ghost use Rattle.firing.specs.Moves.{CanFire};
+ghost use Rattle.net_board.specs.NetLaws.{HoldsOfProgramNets, WokenNodesAreAll};
 ghost use Rattle.net_board.specs.SoundNets.{IsNet, CanCome};
 ghost use Rattle.net_board.specs.ProgramFacts.{ProgramFacts};
-ghost use Rattle.net_board.specs.Nodes.{NetOf, node_at};
-ghost use Rattle.net_board.specs.NetParts.{AreParts, net_with};
+ghost use Rattle.net_board.specs.Nodes.{NetOf};
+ghost use Rattle.net_board.specs.NetParts.{AreParts};
 ghost use Rattle.net_board.specs.Simulation.{LeadsLines};
-ghost use Rattle.net_board.specs.Tokens.{Tokens, first_tokens, net_moves};
-ghost use Rattle.net_board.specs.WokenNodes.{IsWoken};
+ghost use Rattle.net_board.specs.Tokens.{first_tokens, net_moves};
 
 use alias_classes::{needs_are_a_frame, needs_are_numbered, needs_cover_accesses};
 use cfg_build::{flow_graph_has_shape, flow_graph_is_strong};
@@ -35,7 +32,7 @@ pub fn nets_begin_soundly()
 
 /// The parts that are a program's own make its net over data of words.
 pub fn parts_make_nets()
-    ensures { (p : Program) (f : FlowGraph) (touches : (piece line : ℕ) → Bool) (routing : Routing) (input : List ℤ) → AreParts p f touches routing → All IsWord input → IsNet (net_with p input touches routing) }
+    ensures { HoldsOfProgramNets IsNet }
 {
     well_formed_programs_can_run();
 }
@@ -49,7 +46,7 @@ pub fn parts_lead_lines()
 
 /// A list that has the nodes before which the moved lines stand then, and those that wait, has each that a firing can have made ready.
 pub fn woken_nodes_are_all()
-    ensures { (net : NetOf) (m : Tokens) (k : ℕ) (woken : List ℕ) → CanCome net m → CanFire (net_moves net) m k → IsWoken net ((net_moves net).fired m k) (node_at net k) woken → Wakes (net_moves net) m k woken }
+    ensures { WokenNodesAreAll }
 {}
 
 // What lower layers tell of programs, and their nets rest on.

@@ -13,3 +13,4 @@ pub mod OperationSimulation
 pub mod OperationFacts
 pub mod OrderFacts
 pub mod WholePieces
+pub mod StructureLaws

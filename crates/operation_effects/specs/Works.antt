@@ -1,9 +1,11 @@
 -- What an operation needs of its program.
-use Rattle.std.specs.Prelude.{◌≡◌, ◌<◌, ℕ, [], ◌∷◌, length, All}
+use Rattle.std.specs.Prelude.{◌≡◌, ◌<◌, ℕ, [], ◌∷◌, length, All, Some, slice_get}
 use Rattle.op_table.specs.Operators.{arity_of}
 use Rattle.f77_tree.specs.declared.programs.Program.{Program}
-use Rattle.f77_tree.specs.CanRun.{CanPrint}
-use Rattle.op_board.specs.Operations.{Operation, Work, Load, Operate, Store, Write, Begin, Advance, DecideTruth, DecideSign, DecideNumber, DecideTrips}
+use Rattle.f77_tree.specs.CanRun.{CanPrint, CanExecute}
+use Rattle.op_board.specs.Operations.{Operation, Work, Load, Operate, Store, Write, Begin, Advance, DecideTruth, DecideSign, DecideNumber, DecideTrips, operations_of}
+use Rattle.f77_tree.specs.declared.programs.ExecKind.{ExecKind}
+use Rattle.cfg_build.specs.declared.pieces.PieceKind.{PieceKind}
 
 -- the names and DOs of the operation are the program's, and what it writes fits the table of names
 abbrev pub FitsProgram : Program → Work → Type 0
@@ -30,3 +32,8 @@ HasOperands _ count = Unit {0}
 
 abbrev pub OperationFits : Program → Operation → Type 0
 OperationFits p op = FitsProgram p op.work × HasOperands op.work (length op.operands)
+
+-- the operations of a piece whose executable fits a program fit it too
+abbrev pub OperationsFit : Type 0
+OperationsFit = (p : Program) (piece : PieceKind) (exec : ExecKind)
+    → CanExecute p exec → (i : ℕ) (op : Operation) → slice_get (operations_of p.names piece exec) i ≡ Some op → OperationFits p op

@@ -2,3 +2,4 @@ pub mod ShortFlow
 pub mod ShortNet
 pub mod ShortProgram
 pub mod TraceOf
+pub mod PrintedTexts

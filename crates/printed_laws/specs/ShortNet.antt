@@ -7,6 +7,7 @@ use Rattle.op_board.specs.Operations.{Operand, Known, From}
 use Rattle.operation_lists.specs.declared.operations.Operand.{Operand as Given}
 use Rattle.operation_lists.specs.declared.operations.Operand.TheVariants as given
 use Rattle.op_board.specs.OperationNets.{OperationNet, all_operation_nodes, first_operation, operation_at, operation_node}
+use Rattle.op_net.specs.Telling.{number_of, piece_of}
 
 -- an operand that is the number of a node, or a word
 abbrev pub IsShortGiven : Given → Type 0
@@ -35,3 +36,8 @@ HaveShortOperandsBelow x count = (k : ℕ) → k < count → HasShortOperands x 
 pub record IsShortNet (x : OperationNet) : Type 0 where
   pub nodes : length (all_operation_nodes x) < 2 ^ 32
   pub operands : HaveShortOperandsBelow x (length (all_operation_nodes x))
+
+-- the operands of an operation of the net
+abbrev pub HasShortOperandsAt : OperationNet → (k : ℕ) → Type 0
+HasShortOperandsAt x k =
+    AreShortOperands x (piece_of (operation_node x k)) (operation_at x (piece_of (operation_node x k)) (number_of (operation_node x k))).operands

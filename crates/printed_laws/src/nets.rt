@@ -2,11 +2,11 @@
 
 ghost use Rattle.std.specs.Prelude.{◌<◌};
 ghost use Rattle.op_table.specs.Words.{IsWord};
-ghost use Rattle.op_board.specs.OperationNets.{operation_at, operation_node};
+ghost use Rattle.op_board.specs.OperationNets.{operation_node};
 ghost use Rattle.op_net.specs.GraphView.{operations_of};
-ghost use Rattle.op_net.specs.Telling.{IsOperation, number_of, piece_of};
+ghost use Rattle.op_net.specs.Telling.{IsOperation};
 ghost use Rattle.op_net.specs.Waits.{node_total};
-ghost use Rattle.printed_laws.specs.ShortNet.{AreShortOperands, HasShortOperands, IsShortGiven, IsShortNet};
+ghost use Rattle.printed_laws.specs.ShortNet.{HasShortOperands, IsShortGiven, IsShortNet, HasShortOperandsAt};
 
 use crate::numbers::stays_short;
 use firing::NodeName;
@@ -37,7 +37,7 @@ fn node_is_short<const W: usize>(net: &OpGraph<'_, W>, k: u32)
 fn operands_are_short<const W: usize>(net: &OpGraph<'_, W>, k: u32)
     requires node { k < node_total (operations_of net.now) }
     requires operation { IsOperation (operation_node (operations_of net.now) k) }
-    ensures { AreShortOperands (operations_of net.now) (piece_of (operation_node (operations_of net.now) k)) (operation_at (operations_of net.now) (piece_of (operation_node (operations_of net.now) k)) (number_of (operation_node (operations_of net.now) k))).operands }
+    ensures { HasShortOperandsAt (operations_of net.now) k }
 {
     let count = net.operands(k);
     stays_short(count);

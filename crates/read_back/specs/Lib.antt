@@ -4,3 +4,4 @@ pub mod ReadAgain
 pub mod ReadLines
 pub mod SourceStatements
 pub mod StorageRefusals
+pub mod ReadBack

@@ -1,9 +1,9 @@
 -- What is known of each region tree.
 use Rattle.std.proofs.Common.{zero, suc}
-use Rattle.std.specs.Prelude.{◌≡◌, ◌≢◌, ℕ, ◌<◌, ◌↔◌, Bool, true}
+use Rattle.std.specs.Prelude.{◌≡◌, ◌≢◌, ℕ, ◌<◌, ◌↔◌, Bool, true, ◌⊎◌}
 use Rattle.closed_walks.specs.Graph.{Graph}
-use Rattle.closed_walks.specs.Region.{IsEntered, AreApart}
-use Rattle.region_tree.specs.Tree.{Tree, entry_of, exit_of, parent_of, IsNumber, IsIn, IsAround}
+use Rattle.closed_walks.specs.Region.{IsEntered, AreApart, IsFlowGraph}
+use Rattle.region_tree.specs.Tree.{Tree, entry_of, exit_of, parent_of, IsNumber, IsIn, IsAround, IsRegionTree, IsPart, innermost_of}
 
 -- A test for the nodes of the region, which of all edges the entry alone enters and the exit alone leaves.
 abbrev pub HasBorders : Graph → Tree → ℕ → Type 0
@@ -32,3 +32,13 @@ pub record IsTreeRank (g : Graph) (t : Tree) (rank : ℕ → ℕ) (bound : ℕ) 
 abbrev pub above : Tree → (k r : ℕ) → ℕ
 above t zero r = r
 above t (suc k) r = above t k (parent_of t r)
+
+-- two different regions have no node in common, or one of them lies within the other
+abbrev pub AreApartOrNested : Type 0
+AreApartOrNested = (g : Graph) (t : Tree) (q r : ℕ)
+    → IsFlowGraph g → IsRegionTree g t → IsNumber t q → IsNumber t r → q ≢ r → AreSeparate g t q r ⊎ (IsPart g t q r ⊎ IsPart g t r q)
+
+-- a region that holds a node is its smallest, or comes of it by parents
+abbrev pub HoldersAreAChain : Type 0
+HoldersAreAChain = (g : Graph) (t : Tree) (r node : ℕ)
+    → IsFlowGraph g → IsRegionTree g t → IsNumber t r → node < g.nodes → IsIn g t r node → (k : ℕ) × (above t k (innermost_of t node) ≡ r)

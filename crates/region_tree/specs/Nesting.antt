@@ -4,6 +4,7 @@ use Rattle.closed_walks.specs.Graph.{Graph}
 use Rattle.closed_walks.specs.Walk.{Holds}
 use Rattle.region_tree.specs.Scan.{IsHead}
 use Rattle.region_tree.specs.Tree.{Tree, IsNumber, IsIn, IsAround, IsLeastOrNone, entry_of}
+use Rattle.region_tree.specs.declared.listing.Listing.{Listing}
 
 -- the regions alone
 abbrev pub table : (entries exits : List ℕ) → Tree
@@ -16,3 +17,7 @@ pub record IsNested (g : Graph) (t : Tree) (edges parents innermost : List ℕ) 
   pub right_parents : (r : ℕ) → IsNumber t r → Holds edges (entry_of t r) → IsLeastOrNone g t (λ q. IsAround g t r q) (slice_index parents r)
   pub nodes : length innermost ≡ g.nodes
   pub right_innermost : (node : ℕ) → node < g.nodes → (node ≡ 0) ⊎ IsHead g edges node → IsLeastOrNone g t (λ q. IsIn g t q node) (slice_index innermost node)
+
+-- the regions that are listed, before it is known which lie in which
+abbrev pub listed : Listing → Tree
+listed listing = table listing.entries.items listing.exits.items

@@ -1,10 +1,10 @@
 //! Laws on region trees, as contracts of functions that do nothing.
 
-ghost use Rattle.std.specs.Prelude.{◌≡◌, ◌≢◌, ◌<◌, ◌⊎◌, ℕ};
+ghost use Rattle.std.specs.Prelude.{◌≡◌, ◌≢◌, ℕ};
 ghost use Rattle.closed_walks.specs.Graph.{Graph};
 ghost use Rattle.closed_walks.specs.Region.{IsFlowGraph, IsPassed};
-ghost use Rattle.region_tree.specs.Tree.{Tree, IsRegionTree, IsNumber, IsIn, IsPart, entry_of, exit_of, innermost_of};
-ghost use Rattle.region_tree.specs.Laws.{HasBorders, AreSeparate, IsOwnRegion, IsTreeRank, above};
+ghost use Rattle.region_tree.specs.Tree.{Tree, IsRegionTree, IsNumber, IsIn, IsPart, entry_of, exit_of};
+ghost use Rattle.region_tree.specs.Laws.{HasBorders, IsOwnRegion, IsTreeRank, AreApartOrNested, HoldersAreAChain};
 
 use crate::facts::region_facts;
 
@@ -25,7 +25,7 @@ pub fn region_numbers()
 
 /// Two different regions have no node in common, or one of them lies within the other; two that lie within each other are one.
 pub fn tree_nests()
-    ensures apart { (g : Graph) (t : Tree) (q r : ℕ) → IsFlowGraph g → IsRegionTree g t → IsNumber t q → IsNumber t r → q ≢ r → AreSeparate g t q r ⊎ (IsPart g t q r ⊎ IsPart g t r q) }
+    ensures apart { AreApartOrNested }
     ensures one_way { (g : Graph) (t : Tree) (q r : ℕ) → IsFlowGraph g → IsRegionTree g t → IsNumber t q → IsNumber t r → IsPart g t q r → IsPart g t r q → q ≡ r }
 {
     region_facts();
@@ -55,7 +55,7 @@ pub fn tree_ranks()
 
 /// A region that holds a node is the smallest that does, or comes of it by parents.
 pub fn holders_are_a_chain()
-    ensures { (g : Graph) (t : Tree) (r node : ℕ) → IsFlowGraph g → IsRegionTree g t → IsNumber t r → node < g.nodes → IsIn g t r node → (k : ℕ) × (above t k (innermost_of t node) ≡ r) }
+    ensures { HoldersAreAChain }
 {
     region_facts();
 }

@@ -4,7 +4,7 @@ ghost use Rattle.std.specs.Prelude.{IfOk};
 ghost use Rattle.closed_walks.specs.Graph.{edge_count};
 ghost use Rattle.closed_walks.specs.Region.{IsFlowGraph};
 ghost use Rattle.region_tree.specs.Listing.{AreEntryNumbers};
-ghost use Rattle.region_tree.specs.Nesting.{IsNested, table};
+ghost use Rattle.region_tree.specs.Nesting.{IsNested, listed};
 ghost use Rattle.region_tree.specs.Scan.{IsScan};
 ghost use Rattle.region_tree.specs.Tree.{AreRegions};
 
@@ -33,9 +33,9 @@ pub(crate) fn nest(
 ) -> Result<Nesting, NoMemory>
     requires flow { IsFlowGraph g.now }
     requires scan { IsScan g.now edges.now }
-    requires regions { AreRegions g.now (table listing.now.entries.items listing.now.exits.items) }
+    requires regions { AreRegions g.now (listed listing.now) }
     requires numbers { AreEntryNumbers (edge_count g.now) listing.now.numbers.items listing.now.entries.items }
-    ensures { IfOk result (λ nesting. IsNested g.now (table listing.now.entries.items listing.now.exits.items) edges.now nesting.parents.items nesting.innermost.items) }
+    ensures { IfOk result (λ nesting. IsNested g.now (listed listing.now) edges.now nesting.parents.items nesting.innermost.items) }
 {
     region_facts();
     let mut parents = vec![in alloc; 0; listing.entries.len()]?;

@@ -9,7 +9,7 @@ use Rattle.storage_association.specs.declared.storages.Storages.{Storages}
 use Rattle.storage_association.specs.declared.equations.Blocks.{Blocks}
 use Rattle.storage_association.specs.declared.equations.Commons.{Commons}
 use Rattle.layout_rules.specs.Declarations.{all_commons, all_groups}
-use Rattle.layout_rules.specs.Storage.{Standing, standings, equations, spots_by, with_standing, last_standing, standing_equations}
+use Rattle.layout_rules.specs.Storage.{Standing, standings, equations, spots_by, with_standing, last_standing, standing_equations, common_equations}
 use Rattle.storage_association.specs.Storages.{AreRight, AreStorages}
 use Rattle.storage_association.specs.declared.equations.Placing.{Placing}
 use Rattle.storage_association.specs.declared.equations.Placing.TheVariants.{Wrong, Right}
@@ -75,3 +75,11 @@ pub record IsPlaced (names : List NameInfo) (stmts : List Labelled) (s : Storage
 abbrev pub IsPlacing : List NameInfo → List Labelled → Placing → Type 0
 IsPlacing names stmts (Wrong line) = first_line (has_wrong_places names stmts) stmts ≡ Some line
 IsPlacing names stmts (Right s) = IsPlaced names stmts s
+
+-- one more name stands in the blocks
+abbrev pub AddsStanding : List NameInfo → Standing → (old new : Commons) → Type 0
+AddsStanding names standing old new = (standings : List Standing) → AreCommons names standings old → AreCommons names (with_standing standings standing) new
+
+-- the storages that the COMMON statements give
+abbrev pub AreCommonStorages : List NameInfo → List Labelled → Storages → Type 0
+AreCommonStorages names stmts s = AreStorages (length names) (firsts_of (standings names (all_commons stmts))) (common_equations names (all_commons stmts)) s

@@ -1,5 +1,5 @@
 -- Storages while equations come one by one: what is known of each, and when the places so far are right.
-use Rattle.std.specs.Prelude.{◌≡◌, ℕ, ◌<◌, ◌^◌, ℤ, pos, ◌+ℤ◌, ◌≤ℤ◌, int_le, Bool, true, false, if◌then◌else◌, List, length, Contains, Option, Some, None, get_or}
+use Rattle.std.specs.Prelude.{◌≡◌, ℕ, ◌<◌, ◌^◌, ℤ, pos, ◌+ℤ◌, ◌≤ℤ◌, int_le, Bool, true, false, if◌then◌else◌, List, length, Contains, Option, Some, None, get_or, [], ◌++◌, ◌∷◌, Decides}
 use Rattle.std.specs.Int.{int_min}
 use Rattle.f77_tree.specs.Places.{Equation}
 use Rattle.storage_association.specs.declared.forest.Node.{Node}
@@ -103,3 +103,18 @@ pub record AreSome (s : Storages) : Type 0 where
   pub firsts : List ℕ
   pub all : List Equation
   pub held : AreStorages count firsts all s
+
+-- whether the places of the storages are right so far
+abbrev pub TellsRight : Storages → Bool → Type 0
+TellsRight s right = (count : ℕ) (firsts : List ℕ) (all : List Equation)
+    → AreStorages count firsts all s → Decides right (AreRight (spots_by count all) firsts all)
+
+-- one more block begins, with this name
+abbrev pub BeginsBlock : (name : ℕ) → (old new : Storages) → Type 0
+BeginsBlock name old new = (count : ℕ) (firsts : List ℕ) (all : List Equation)
+    → AreStorages count firsts all old → (Contains firsts name → ⊥) → AreStorages count (firsts ++ name ∷ []) all new
+
+-- one more equation is asked
+abbrev pub AddsEquation : Equation → (old new : Storages) → Type 0
+AddsEquation e old new = (count : ℕ) (firsts : List ℕ) (all : List Equation)
+    → AreStorages count firsts all old → AreStorages count firsts (all ++ e ∷ []) new

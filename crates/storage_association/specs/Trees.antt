@@ -97,3 +97,7 @@ IsAnswer old new spots e (Hung child root offset) = IsHung old new spots e child
 pub record IsJoined (old new : List Node) (spots : List Spot) (e : Equation) (joined : Joined) : Type 0 where
   pub forest : IsForest new (linked spots e)
   pub answer : IsAnswer old new spots e joined
+
+-- the trees of two names are joined, whatever places they stand for
+abbrev pub JoinsTrees : (old new : List Node) → Equation → Joined → Type 0
+JoinsTrees old new e joined = (spots : List Spot) → IsForest old spots → IsJoined old new spots e joined

@@ -5,9 +5,12 @@ use Rattle.f77_tree.specs.declared.programs.NameInfo.{NameInfo}
 use Rattle.storage_association.specs.declared.forest.Node.{Node}
 use Rattle.storage_association.specs.declared.word_numbers.Span.{Span}
 use Rattle.storage_association.specs.declared.word_numbers.WordNumbers.{WordNumbers}
-use Rattle.layout_rules.specs.Storage.{Spot, size_at, words_before, place_of, words_in_all}
-use Rattle.storage_association.specs.Trees.{IsRoot}
+use Rattle.layout_rules.specs.Storage.{Spot, size_at, words_before, place_of, words_in_all, spots_by}
+use Rattle.storage_association.specs.Trees.{IsRoot, IsForest}
 use Rattle.layout_rules.specs.Spots.{storage_at, distance_at, IsBelow}
+use Rattle.f77_tree.specs.Places.{Equation}
+use Rattle.storage_association.specs.declared.storages.Storages.{Storages}
+use Rattle.storage_association.specs.Storages.{AreStorages}
 
 -- a name of the storage at this place
 pub record IsReached (spots : List Spot) (root : ℕ) (place : ℤ) : Type 0 where
@@ -64,3 +67,12 @@ pub record AreNumbered (names : List NameInfo) (nodes : List Node) (spots : List
 pub record AreNumbers (names : List NameInfo) (spots : List Spot) (w : WordNumbers) : Type 0 where
   pub places_are : w.places.items ≡ map (place_of names spots) (range_with_len 0 (length spots))
   pub words_are : w.words ≡ words_in_all names spots
+
+-- how far the storages of all names reach, whatever places the trees stand for
+abbrev pub AreSpansOf : List NameInfo → List Node → List Span → Type 0
+AreSpansOf names nodes spans = (spots : List Spot) → IsForest nodes spots → AreSpans names nodes spots (length names) spans
+
+-- the numbers of the words that the storages have
+abbrev pub AreNumbersOf : List NameInfo → Storages → WordNumbers → Type 0
+AreNumbersOf names storages w = (firsts : List ℕ) (all : List Equation)
+    → AreStorages (length names) firsts all storages → AreNumbers names (spots_by (length names) all) w

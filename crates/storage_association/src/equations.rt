@@ -1,12 +1,12 @@
 ghost use Rattle.std.specs.Prelude.{◌≡◌, ◌<◌, ℕ, [], ◌∷◌, List, length, if◌then◌else◌, Option, Some, None, OnOk, IfOk, All, flat_map};
 ghost use Rattle.f77_tree.specs.Declarations.{index_of, member_index};
 ghost use Rattle.f77_tree.specs.Places.{same_block};
-ghost use Rattle.layout_rules.specs.Declarations.{all_commons, groups_of, parts_of};
-ghost use Rattle.layout_rules.specs.Storage.{Standing, common_equations, equated, group_equations, standings, standings_of, with_standing};
+ghost use Rattle.layout_rules.specs.Declarations.{groups_of, parts_of};
+ghost use Rattle.layout_rules.specs.Storage.{equated, group_equations, standings_of};
 ghost use Rattle.layout_rules.specs.StorageFaults.{is_equivalence};
-ghost use Rattle.storage_association.specs.Storages.{AreSome, AreStorages};
-ghost use Rattle.layout_rules.specs.Standings.{AreDeclsKnown, AreGroupsKnown, AreKnown, ArePartsKnown, firsts_of};
-ghost use Rattle.storage_association.specs.CommonStorages.{AreCommons, AreSomeCommons, Extends, IsPlacing, Links, last_in};
+ghost use Rattle.storage_association.specs.Storages.{AreSome};
+ghost use Rattle.layout_rules.specs.Standings.{AreDeclsKnown, AreGroupsKnown, AreKnown, ArePartsKnown};
+ghost use Rattle.storage_association.specs.CommonStorages.{AreSomeCommons, Extends, IsPlacing, Links, last_in, AddsStanding, AreCommonStorages};
 
 use crate::sizes::{distance_of, size_of};
 use crate::storages::Storages;
@@ -79,8 +79,7 @@ impl Commons {
     ) -> Result<(), NoMemory>
         requires some { AreSomeCommons names.now self.old }
         requires known { index_of names.now name.now < length names.now }
-        ensures { OnOk result ((standings : List Standing) → AreCommons names.now standings self.old
-            → AreCommons names.now (with_standing standings (record { block = block.now; name = index_of names.now name.now })) self.new) }
+        ensures { OnOk result (AddsStanding names.now (record { block = block.now; name = index_of names.now name.now }) self.old self.new) }
     {
         let k = names.index(name);
         if self.stood[k as usize] {
@@ -156,8 +155,7 @@ fn groups_of(stmt: &Stmt) -> &[MemberList]
 /// The storages that the COMMON statements give.
 fn common_storages(alloc: Global, names: &Names, stmts: &[Labelled]) -> Result<Storages, NoMemory>
     requires { AreKnown names.now stmts.now }
-    ensures { IfOk result (λ s. AreStorages (length names.now) (firsts_of (standings names.now (all_commons stmts.now)))
-        (common_equations names.now (all_commons stmts.now)) s) }
+    ensures { IfOk result (λ s. AreCommonStorages names.now stmts.now s) }
 {
     let count = names.len();
     let mut commons = Commons {

@@ -1,6 +1,6 @@
 ghost use Rattle.std.specs.Prelude.{◌≡◌, ◌≢◌, ◌+◌, ◌<◌, ◌^◌, List, length, IfOk};
 ghost use Rattle.layout_rules.specs.Storage.{Spot, alone};
-ghost use Rattle.storage_association.specs.Trees.{AreTrees, IsForest, IsJoined, IsRooted, hung, node_at};
+ghost use Rattle.storage_association.specs.Trees.{AreTrees, IsForest, IsRooted, hung, node_at, JoinsTrees};
 ghost use Rattle.layout_rules.specs.Spots.{IsReach};
 
 use df_sequence::NoMemory;
@@ -83,8 +83,7 @@ impl Forest {
         requires second { to < length self.old.nodes.items }
         requires few { length self.old.nodes.items < 2 ^ 32 }
         requires reach { IsReach distance }
-        ensures { (spots : List Spot) → IsForest self.old.nodes.items spots
-            → IsJoined self.old.nodes.items self.new.nodes.items spots (record { from = from; to = to; distance = distance }) result }
+        ensures { JoinsTrees self.old.nodes.items self.new.nodes.items (record { from = from; to = to; distance = distance }) result }
     {
         let a = self.find(from);
         let b = self.find(to);

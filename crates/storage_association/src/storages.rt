@@ -1,10 +1,8 @@
-ghost use Rattle.std.specs.Prelude.{◌≡◌, ◌<◌, ℕ, [], ◌∷◌, ◌++◌, List, length, IfOk, Decides, Contains, FitsSigned, ◌+ℤ◌};
+ghost use Rattle.std.specs.Prelude.{◌≡◌, ◌<◌, [], length, IfOk, FitsSigned, ◌+ℤ◌};
 ghost use Rattle.std.specs.Int.{w64};
 ghost use Rattle.std.specs.Option.{ForSome};
-ghost use Rattle.f77_tree.specs.Places.{Equation};
-ghost use Rattle.layout_rules.specs.Storage.{spots_by};
 ghost use Rattle.layout_rules.specs.Spots.{IsReach};
-ghost use Rattle.storage_association.specs.Storages.{AreRight, AreSome, AreStorages, joined_part, moved_part, part_if_right};
+ghost use Rattle.storage_association.specs.Storages.{AreSome, AreStorages, joined_part, moved_part, part_if_right, TellsRight, BeginsBlock, AddsEquation};
 
 use crate::forest::{Forest, Joined, Rooted};
 use df_sequence::NoMemory;
@@ -45,8 +43,7 @@ impl Storages {
 
     /// Whether the places are right so far.
     pub(crate) fn are_right(&self) -> bool
-        ensures { (count : ℕ) (firsts : List ℕ) (all : List Equation) → AreStorages count firsts all self.now
-            → Decides result (AreRight (spots_by count all) firsts all) }
+        ensures { TellsRight self.now result }
     {
         self.right
     }
@@ -62,8 +59,7 @@ impl Storages {
     pub(crate) fn begin_block(&mut self, name: u32)
         requires some { AreSome self.old }
         requires known { name < length self.old.parts.items }
-        ensures { (count : ℕ) (firsts : List ℕ) (all : List Equation) → AreStorages count firsts all self.old → (Contains firsts name → ⊥)
-            → AreStorages count (firsts ++ name ∷ []) all self.new }
+        ensures { BeginsBlock name self.old self.new }
     {
         let Rooted { root, distance } = self.forest.find(name);
         let own = Part {
@@ -84,8 +80,7 @@ impl Storages {
         requires first { from < length self.old.parts.items }
         requires second { to < length self.old.parts.items }
         requires reach { IsReach distance }
-        ensures { (count : ℕ) (firsts : List ℕ) (all : List Equation) → AreStorages count firsts all self.old
-            → AreStorages count firsts (all ++ (record { from = from; to = to; distance = distance }) ∷ []) self.new }
+        ensures { AddsEquation (record { from = from; to = to; distance = distance }) self.old self.new }
     {
         match self.forest.join(from, to, distance) {
             Joined::Same { distance: there } => {

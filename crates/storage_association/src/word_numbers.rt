@@ -1,11 +1,10 @@
-ghost use Rattle.std.specs.Prelude.{◌≡◌, ◌+◌, ◌<◌, ◌^◌, ℕ, List, length, IfOk, FitsSigned, nat_abs, ◌-ℤ◌, ◌≤ℤ◌};
+ghost use Rattle.std.specs.Prelude.{◌≡◌, ◌+◌, ◌<◌, ◌^◌, List, length, IfOk, FitsSigned, nat_abs, ◌-ℤ◌, ◌≤ℤ◌};
 ghost use Rattle.std.specs.Int.{w64};
-ghost use Rattle.f77_tree.specs.Places.{Equation};
-ghost use Rattle.layout_rules.specs.Storage.{Spot, spots_by};
-ghost use Rattle.storage_association.specs.Storages.{AreSome, AreStorages};
+ghost use Rattle.layout_rules.specs.Storage.{Spot};
+ghost use Rattle.storage_association.specs.Storages.{AreSome};
 ghost use Rattle.storage_association.specs.Trees.{AreLowTrees, AreTrees, IsForest};
 ghost use Rattle.layout_rules.specs.Spots.{AreLowest};
-ghost use Rattle.storage_association.specs.WordNumbers.{AreNumbers, AreSpans, begun};
+ghost use Rattle.storage_association.specs.WordNumbers.{AreNumbers, begun, AreSpansOf, AreNumbersOf};
 
 use crate::forest::{Forest, Rooted};
 use crate::sizes::size_of;
@@ -33,8 +32,7 @@ fn spans(alloc: Global, names: &Names, forest: &Forest) -> Result<Vec<Span>, NoM
     requires trees { AreTrees forest.now.nodes.items }
     requires names { length forest.now.nodes.items ≡ length names.now }
     ensures all { IfOk result (λ spans. length spans.items ≡ length names.now) }
-    ensures reach { IfOk result (λ spans. (spots : List Spot) → IsForest forest.now.nodes.items spots
-        → AreSpans names.now forest.now.nodes.items spots (length names.now) spans.items) }
+    ensures reach { IfOk result (λ spans. AreSpansOf names.now forest.now.nodes.items spans.items) }
 {
     let none = Span { low: 0, high: 0 };
     let mut spans = vec![in alloc; none; names.len() as usize]?;
@@ -81,8 +79,7 @@ pub fn numbers_of(
 ) -> Result<WordNumbers, NoMemory>
     requires some { AreSome storages.now }
     requires names { length storages.now.parts.items ≡ length names.now }
-    ensures { IfOk result (λ w. (firsts : List ℕ) (all : List Equation) → AreStorages (length names.now) firsts all storages.now
-        → AreNumbers names.now (spots_by (length names.now) all) w) }
+    ensures { IfOk result (λ w. AreNumbersOf names.now storages.now w) }
 {
     word_numbers(alloc, names, storages.forest())
 }

@@ -1,15 +1,12 @@
 //! DATA that gives a value of the wrong kind, too few or too many values, or a word two values (ANSI X3.9-1978, section 9).
 
-ghost use Rattle.std.specs.Prelude.{◌≡◌, ℕ, ◌++◌, ◌&&◌, ◌||◌, not, false, List, flat_map, IfOk};
+ghost use Rattle.std.specs.Prelude.{◌≡◌, ℕ, not, false, List, flat_map, IfOk};
 ghost use Rattle.std.specs.List.{list_any};
-ghost use Rattle.std.specs.Ordering.{nat_cmp};
-ghost use Rattle.std.specs.BTreeMap.{get};
 ghost use Rattle.f77_tree.specs.InitialWords.{part_words};
-ghost use Rattle.layout_rules.specs.Declarations.{inits_of};
-ghost use Rattle.layout_rules.specs.StorageFaults.{is_member, has_wrong_member, is_data, is_wrong_part, has_wrong_part};
+ghost use Rattle.layout_rules.specs.StorageFaults.{is_member, is_wrong_part, has_wrong_part};
 ghost use Rattle.layout_rules.specs.StorageLines.{given_by};
 ghost use Rattle.layout_rules.specs.PlacedNames.{with_places, ArePlaces};
-ghost use Rattle.storage_checks.specs.GivenWords.{Holds};
+ghost use Rattle.storage_checks.specs.GivenWords.{AreGiven, GivesMore, gives_wrongly};
 
 use crate::data_items::spans_of;
 use crate::data_kinds::fits;
@@ -30,11 +27,8 @@ pub(crate) fn is_wrong(
     s: &Labelled,
 ) -> Result<bool, NoMemory>
     requires places { ArePlaces names.now places.now }
-    ensures wrong { IfOk result (λ wrong. (seen : List ℕ) → Holds (get nat_cmp given.old.ends) seen
-        → wrong ≡ (is_data s.now.stmt && (has_wrong_member names.now s.now
-        || has_wrong_part (with_places names.now places.now) seen (inits_of s.now.stmt)))) }
-    ensures added { IfOk result (λ wrong. (seen : List ℕ) → Holds (get nat_cmp given.old.ends) seen
-        → Holds (get nat_cmp given.new.ends) (seen ++ flat_map (part_words (with_places names.now places.now)) (given_by names.now s.now))) }
+    ensures wrong { IfOk result (λ wrong. (seen : List ℕ) → AreGiven given.old seen → wrong ≡ gives_wrongly names.now (with_places names.now places.now) seen s.now) }
+    ensures added { IfOk result (λ wrong. GivesMore given.old given.new (flat_map (part_words (with_places names.now places.now)) (given_by names.now s.now))) }
 {
     match &s.stmt {
         Stmt::Init(parts) => {
@@ -56,10 +50,8 @@ fn are_wrong_parts(
 ) -> Result<bool, NoMemory>
     requires members { list_any (λ part. list_any (λ member. not (is_member names.now member)) part.items) parts.now ≡ false }
     requires places { ArePlaces names.now places.now }
-    ensures wrong { IfOk result (λ wrong. (seen : List ℕ) → Holds (get nat_cmp given.old.ends) seen
-        → wrong ≡ has_wrong_part (with_places names.now places.now) seen parts.now) }
-    ensures added { IfOk result (λ wrong. (seen : List ℕ) → Holds (get nat_cmp given.old.ends) seen
-        → Holds (get nat_cmp given.new.ends) (seen ++ flat_map (part_words (with_places names.now places.now)) parts.now)) }
+    ensures wrong { IfOk result (λ wrong. (seen : List ℕ) → AreGiven given.old seen → wrong ≡ has_wrong_part (with_places names.now places.now) seen parts.now) }
+    ensures added { IfOk result (λ wrong. GivesMore given.old given.new (flat_map (part_words (with_places names.now places.now)) parts.now)) }
 {
     let mut wrong = false;
     for part in parts {
@@ -78,10 +70,8 @@ fn is_wrong_part_of(
 ) -> Result<bool, NoMemory>
     requires members { list_any (λ member. not (is_member names.now member)) part.now.items ≡ false }
     requires places { ArePlaces names.now places.now }
-    ensures wrong { IfOk result (λ wrong. (seen : List ℕ) → Holds (get nat_cmp given.old.ends) seen
-        → wrong ≡ is_wrong_part (with_places names.now places.now) seen part.now) }
-    ensures added { IfOk result (λ wrong. (seen : List ℕ) → Holds (get nat_cmp given.old.ends) seen
-        → Holds (get nat_cmp given.new.ends) (seen ++ part_words (with_places names.now places.now) part.now)) }
+    ensures wrong { IfOk result (λ wrong. (seen : List ℕ) → AreGiven given.old seen → wrong ≡ is_wrong_part (with_places names.now places.now) seen part.now) }
+    ensures added { IfOk result (λ wrong. GivesMore given.old given.new (part_words (with_places names.now places.now) part.now)) }
 {
     let spans = spans_of(alloc, names, places, part.items.as_slice())?;
     let fit = fits(&spans, part.values.as_slice());

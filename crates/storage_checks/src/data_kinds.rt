@@ -1,10 +1,10 @@
 //! The kinds of the words of DATA against those of its constants, run by run (ANSI X3.9-1978, section 9).
 
-ghost use Rattle.std.specs.Prelude.{◌≡◌, ◌++◌, ◌&&◌, List, map, flat_map, replicate};
+ghost use Rattle.std.specs.Prelude.{◌≡◌, map, flat_map};
 ghost use Rattle.f77_tree.specs.declared.declarations.Kind.{Kind};
 ghost use Rattle.f77_tree.specs.InitialWords.{lit_kind};
 ghost use Rattle.layout_rules.specs.StorageFaults.{same_kind, are_same_kinds};
-ghost use Rattle.storage_checks.specs.Runs.{all_constants, span_kinds};
+ghost use Rattle.storage_checks.specs.Runs.{all_constants, span_kinds, TakesKind};
 
 use crate::constants::Constants;
 use crate::data_spans::Span;
@@ -25,8 +25,7 @@ pub(crate) fn fits(spans: &[Span], values: &[InitValue]) -> bool
 
 // Whether the next constants, so many of them, are of this kind. It takes them, unless they aren't.
 fn takes(constants: &mut Constants<'_>, len: u32, kind: Kind) -> bool
-    ensures { (more : List Kind) → are_same_kinds (replicate len kind ++ more) (map lit_kind constants.old)
-        ≡ (result && are_same_kinds more (map lit_kind constants.new)) }
+    ensures { TakesKind len kind constants.old constants.new result }
 {
     let mut left = len;
     while left > 0 {

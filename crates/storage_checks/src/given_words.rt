@@ -1,12 +1,12 @@
 //! The words that DATA has given values to (ANSI X3.9-1978, section 9).
 
-ghost use Rattle.std.specs.Prelude.{◌≡◌, ℕ, ◌<◌, ◌+◌, ◌^◌, [], ◌++◌, not, ◌==◌, true, List, flat_map, IfOk};
+ghost use Rattle.std.specs.Prelude.{◌≡◌, ℕ, ◌<◌, ◌+◌, ◌^◌, [], not, ◌==◌, true, List, flat_map, IfOk};
 ghost use Rattle.std.specs.Ordering.{nat_cmp};
 ghost use Rattle.std.specs.BTreeMap.{get};
 ghost use Rattle.f77_tree.specs.InitialWords.{words_from};
 ghost use Rattle.layout_rules.specs.Faults.{has_repeat};
 ghost use Rattle.storage_checks.specs.Runs.{span_words};
-ghost use Rattle.storage_checks.specs.GivenWords.{AreClear, Holds, HoldsBeside, IsLastBefore, IsLastReaching};
+ghost use Rattle.storage_checks.specs.GivenWords.{AreClear, Holds, HoldsBeside, IsLastBefore, IsLastReaching, GivesMore, TellsFree};
 
 use crate::data_spans::Span;
 use df_sequence::NoMemory;
@@ -87,10 +87,8 @@ impl GivenWords {
     pub(crate) fn add(&mut self, first: u64, len: u32) -> Result<bool, NoMemory>
         requires some { 0 < len }
         requires room { first + len < 2 ^ 64 }
-        ensures free { IfOk result (λ free. (seen : List ℕ) → Holds (get nat_cmp self.old.ends) seen
-            → free ≡ not (has_repeat (λ a b. a == b) seen (words_from first len))) }
-        ensures added { IfOk result (λ free. (seen : List ℕ) → Holds (get nat_cmp self.old.ends) seen
-            → Holds (get nat_cmp self.new.ends) (seen ++ words_from first len)) }
+        ensures free { IfOk result (λ free. TellsFree self.old (words_from first len) free) }
+        ensures added { IfOk result (λ free. GivesMore self.old self.new (words_from first len)) }
     {
         let free = self.is_free(first, len);
         let (from, to) = self.take_out(first, first + len as u64);
@@ -100,10 +98,8 @@ impl GivenWords {
 
     /// Adds the words of spans, and tells whether none of them was held or stands twice.
     pub(crate) fn add_spans(&mut self, spans: &[Span]) -> Result<bool, NoMemory>
-        ensures free { IfOk result (λ free. (seen : List ℕ) → Holds (get nat_cmp self.old.ends) seen
-            → free ≡ not (has_repeat (λ a b. a == b) seen (flat_map span_words spans.now))) }
-        ensures added { IfOk result (λ free. (seen : List ℕ) → Holds (get nat_cmp self.old.ends) seen
-            → Holds (get nat_cmp self.new.ends) (seen ++ flat_map span_words spans.now)) }
+        ensures free { IfOk result (λ free. TellsFree self.old (flat_map span_words spans.now) free) }
+        ensures added { IfOk result (λ free. GivesMore self.old self.new (flat_map span_words spans.now)) }
     {
         let mut free = true;
         for span in spans {

@@ -1,6 +1,5 @@
-use Rattle.std.proofs.Common.{◌≡◌, ◌==◌, true, length, vec_len, sym, ap, subst, ◌∙◌, ◌-◌, arith}
-use Rattle.closed_walks.specs.Graph.{Graph, IsGraph, edge_count}
-use Rattle.closed_walks.specs.Region.{IsFlowGraph}
+use Rattle.std.proofs.Common.{◌≡◌, vec_len, sym, ap, subst, ◌∙◌, ◌-◌, arith}
+use Rattle.closed_walks.specs.Graph.{IsGraph, edge_count}
 use Rattle.cfg_build.specs.Joined.{FlowGraph}
 use Rattle.cfg_build.specs.Flow.{flow}
 use Rattle.cfg_build.specs.Tables.{drawn_as}
@@ -13,56 +12,31 @@ graph_of-requires-clause-sound c =
 
 pub graph_of-requires-clause-pieces : goal.graph_of-requires-clause-pieces
 graph_of-requires-clause-pieces c =
-    let same = ap (λ (f : FlowGraph). f.graph.nodes) c.in_ok-drawing.ensures in
-    omega (arith, same, few_nodes c.reaching_is_told.ensures c.endless_ways_meet_cycles.ensures c.args.p.now.names c.args.p.now.execs c.args.p.now.loops c.requires.execs)
+    grind (arith, few_nodes c.reaching_is_told.ensures c.endless_ways_meet_cycles.ensures c.args.p.now.names c.args.p.now.execs c.args.p.now.loops c.requires.execs)
 
 pub graph_of-requires-clause-edges : goal.graph_of-requires-clause-edges
 graph_of-requires-clause-edges c =
-    let same = ap (λ (f : FlowGraph). edge_count f.graph) c.in_ok-drawing.ensures in
-    omega (arith, same, few_edges c.reaching_is_told.ensures c.endless_ways_meet_cycles.ensures c.args.p.now.names c.args.p.now.execs c.args.p.now.loops c.requires.execs)
+    grind (arith, few_edges c.reaching_is_told.ensures c.endless_ways_meet_cycles.ensures c.args.p.now.names c.args.p.now.execs c.args.p.now.loops c.requires.execs)
 
 pub put_holds-requires-clause-nodes : goal.put_holds-requires-clause-nodes
 put_holds-requires-clause-nodes c =
-    let fit : HoldsFit (drawn_as c.in_ok-drawing.drawing) c.in_ok-graph.graph (c.nodes-finish.result - 1) c.deref.result.now (flow c.args.p.now.execs) =
-    holds_fit c.reaching_is_told.ensures c.endless_ways_meet_cycles.ensures c.args.p.now.names c.args.p.now.execs c.args.p.now.loops c.requires.execs
-    (drawn_as c.in_ok-drawing.drawing) c.in_ok-graph.graph (c.nodes-finish.result - 1) c.deref.result.now
-    c.in_ok-drawing.ensures c.in_ok-graph.ensures (ap (λ n. n - 1) c.nodes-finish.ensures.count) (c.deref.ensures.value ∙ c.in_ok-held.ensures) in
-    fit.nodes
+    grind (arith, holds_fit c.reaching_is_told.ensures c.endless_ways_meet_cycles.ensures c.args.p.now.names c.args.p.now.execs c.args.p.now.loops c.requires.execs (drawn_as c.in_ok-drawing.drawing) c.in_ok-graph.graph (c.nodes-finish.result - 1) c.deref.result.now c.in_ok-drawing.ensures c.in_ok-graph.ensures)
 
 pub put_holds-requires-clause-held : goal.put_holds-requires-clause-held
 put_holds-requires-clause-held c =
-    let fit : HoldsFit (drawn_as c.in_ok-drawing.drawing) c.in_ok-graph.graph (c.nodes-finish.result - 1) c.deref.result.now (flow c.args.p.now.execs) =
-    holds_fit c.reaching_is_told.ensures c.endless_ways_meet_cycles.ensures c.args.p.now.names c.args.p.now.execs c.args.p.now.loops c.requires.execs
-    (drawn_as c.in_ok-drawing.drawing) c.in_ok-graph.graph (c.nodes-finish.result - 1) c.deref.result.now
-    c.in_ok-drawing.ensures c.in_ok-graph.ensures (ap (λ n. n - 1) c.nodes-finish.ensures.count) (c.deref.ensures.value ∙ c.in_ok-held.ensures) in
-    fit.edges
+    grind (arith, holds_fit c.reaching_is_told.ensures c.endless_ways_meet_cycles.ensures c.args.p.now.names c.args.p.now.execs c.args.p.now.loops c.requires.execs (drawn_as c.in_ok-drawing.drawing) c.in_ok-graph.graph (c.nodes-finish.result - 1) c.deref.result.now c.in_ok-drawing.ensures c.in_ok-graph.ensures)
 
 pub put_holds-requires-clause-few : goal.put_holds-requires-clause-few
 put_holds-requires-clause-few c =
-    let fit : HoldsFit (drawn_as c.in_ok-drawing.drawing) c.in_ok-graph.graph (c.nodes-finish.result - 1) c.deref.result.now (flow c.args.p.now.execs) =
-    holds_fit c.reaching_is_told.ensures c.endless_ways_meet_cycles.ensures c.args.p.now.names c.args.p.now.execs c.args.p.now.loops c.requires.execs
-    (drawn_as c.in_ok-drawing.drawing) c.in_ok-graph.graph (c.nodes-finish.result - 1) c.deref.result.now
-    c.in_ok-drawing.ensures c.in_ok-graph.ensures (ap (λ n. n - 1) c.nodes-finish.ensures.count) (c.deref.ensures.value ∙ c.in_ok-held.ensures) in
-    omega (arith, fit.few)
+    grind (arith, holds_fit c.reaching_is_told.ensures c.endless_ways_meet_cycles.ensures c.args.p.now.names c.args.p.now.execs c.args.p.now.loops c.requires.execs (drawn_as c.in_ok-drawing.drawing) c.in_ok-graph.graph (c.nodes-finish.result - 1) c.deref.result.now c.in_ok-drawing.ensures c.in_ok-graph.ensures)
 
 pub graph_of-requires-2-clause-sound : goal.graph_of-requires-2-clause-sound
 graph_of-requires-2-clause-sound c =
-    let fit : HoldsFit (drawn_as c.in_ok-drawing.drawing) c.in_ok-graph.graph (c.nodes-finish.result - 1) c.deref.result.now (flow c.args.p.now.execs) =
-    holds_fit c.reaching_is_told.ensures c.endless_ways_meet_cycles.ensures c.args.p.now.names c.args.p.now.execs c.args.p.now.loops c.requires.execs
-    (drawn_as c.in_ok-drawing.drawing) c.in_ok-graph.graph (c.nodes-finish.result - 1) c.deref.result.now
-    c.in_ok-drawing.ensures c.in_ok-graph.ensures (ap (λ n. n - 1) c.nodes-finish.ensures.count) (c.deref.ensures.value ∙ c.in_ok-held.ensures) in
-    let drawn : drawn_as c.put_holds.new.drawing ≡ flow c.args.p.now.execs = c.in_ok-put_holds.ensures ∙ fit.is in
-    subst (λ (f : FlowGraph). IsGraph f.graph) (sym drawn) (flow_strong c.reaching_is_told.ensures c.endless_ways_meet_cycles.ensures c.args.p.now.names c.args.p.now.execs c.args.p.now.loops c.requires.execs).sound
+    grind (arith, holds_fit c.reaching_is_told.ensures c.endless_ways_meet_cycles.ensures c.args.p.now.names c.args.p.now.execs c.args.p.now.loops c.requires.execs (drawn_as c.in_ok-drawing.drawing) c.in_ok-graph.graph (c.nodes-finish.result - 1) c.deref.result.now c.in_ok-drawing.ensures c.in_ok-graph.ensures, flow_strong c.reaching_is_told.ensures c.endless_ways_meet_cycles.ensures c.args.p.now.names c.args.p.now.execs c.args.p.now.loops c.requires.execs)
 
 pub graph_of-requires-2-clause-pieces : goal.graph_of-requires-2-clause-pieces
 graph_of-requires-2-clause-pieces c =
-    let fit : HoldsFit (drawn_as c.in_ok-drawing.drawing) c.in_ok-graph.graph (c.nodes-finish.result - 1) c.deref.result.now (flow c.args.p.now.execs) =
-    holds_fit c.reaching_is_told.ensures c.endless_ways_meet_cycles.ensures c.args.p.now.names c.args.p.now.execs c.args.p.now.loops c.requires.execs
-    (drawn_as c.in_ok-drawing.drawing) c.in_ok-graph.graph (c.nodes-finish.result - 1) c.deref.result.now
-    c.in_ok-drawing.ensures c.in_ok-graph.ensures (ap (λ n. n - 1) c.nodes-finish.ensures.count) (c.deref.ensures.value ∙ c.in_ok-held.ensures) in
-    let drawn : drawn_as c.put_holds.new.drawing ≡ flow c.args.p.now.execs = c.in_ok-put_holds.ensures ∙ fit.is in
-    let same = ap (λ (f : FlowGraph). f.graph.nodes) drawn in
-    omega (arith, same, few_flow_nodes c.reaching_is_told.ensures c.endless_ways_meet_cycles.ensures c.args.p.now.names c.args.p.now.execs c.args.p.now.loops c.requires.execs)
+    grind (arith, holds_fit c.reaching_is_told.ensures c.endless_ways_meet_cycles.ensures c.args.p.now.names c.args.p.now.execs c.args.p.now.loops c.requires.execs (drawn_as c.in_ok-drawing.drawing) c.in_ok-graph.graph (c.nodes-finish.result - 1) c.deref.result.now c.in_ok-drawing.ensures c.in_ok-graph.ensures, few_flow_nodes c.reaching_is_told.ensures c.endless_ways_meet_cycles.ensures c.args.p.now.names c.args.p.now.execs c.args.p.now.loops c.requires.execs)
 
 pub graph_of-requires-2-clause-edges : goal.graph_of-requires-2-clause-edges
 graph_of-requires-2-clause-edges c =
@@ -76,40 +50,16 @@ graph_of-requires-2-clause-edges c =
 
 pub returns-clause-flow : goal.returns-clause-flow
 returns-clause-flow c =
-    let fit : HoldsFit (drawn_as c.in_ok-drawing.drawing) c.in_ok-graph.graph (c.nodes-finish.result - 1) c.deref.result.now (flow c.args.p.now.execs) =
-    holds_fit c.reaching_is_told.ensures c.endless_ways_meet_cycles.ensures c.args.p.now.names c.args.p.now.execs c.args.p.now.loops c.requires.execs
-    (drawn_as c.in_ok-drawing.drawing) c.in_ok-graph.graph (c.nodes-finish.result - 1) c.deref.result.now
-    c.in_ok-drawing.ensures c.in_ok-graph.ensures (ap (λ n. n - 1) c.nodes-finish.ensures.count) (c.deref.ensures.value ∙ c.in_ok-held.ensures) in
-    let drawn : drawn_as c.put_holds.new.drawing ≡ flow c.args.p.now.execs = c.in_ok-put_holds.ensures ∙ fit.is in
-    ap (λ (h : Graph). record { graph = h; pieces = c.put_holds.new.drawing.pieces.items }) c.in_ok-graph_of.ensures ∙ drawn
+    grind (arith, holds_fit c.reaching_is_told.ensures c.endless_ways_meet_cycles.ensures c.args.p.now.names c.args.p.now.execs c.args.p.now.loops c.requires.execs (drawn_as c.in_ok-drawing.drawing) c.in_ok-graph.graph (c.nodes-finish.result - 1) c.deref.result.now c.in_ok-drawing.ensures c.in_ok-graph.ensures)
 
 pub returns-clause-flow_graph : goal.returns-clause-flow_graph
 returns-clause-flow_graph c =
-    let fit : HoldsFit (drawn_as c.in_ok-drawing.drawing) c.in_ok-graph.graph (c.nodes-finish.result - 1) c.deref.result.now (flow c.args.p.now.execs) =
-    holds_fit c.reaching_is_told.ensures c.endless_ways_meet_cycles.ensures c.args.p.now.names c.args.p.now.execs c.args.p.now.loops c.requires.execs
-    (drawn_as c.in_ok-drawing.drawing) c.in_ok-graph.graph (c.nodes-finish.result - 1) c.deref.result.now
-    c.in_ok-drawing.ensures c.in_ok-graph.ensures (ap (λ n. n - 1) c.nodes-finish.ensures.count) (c.deref.ensures.value ∙ c.in_ok-held.ensures) in
-    let drawn : drawn_as c.put_holds.new.drawing ≡ flow c.args.p.now.execs = c.in_ok-put_holds.ensures ∙ fit.is in
-    subst (λ (h : Graph). IsFlowGraph h) (sym (c.in_ok-graph_of.ensures ∙ ap (λ (f : FlowGraph). f.graph) drawn)) (flow_strong c.reaching_is_told.ensures c.endless_ways_meet_cycles.ensures c.args.p.now.names c.args.p.now.execs c.args.p.now.loops c.requires.execs)
+    grind (arith, holds_fit c.reaching_is_told.ensures c.endless_ways_meet_cycles.ensures c.args.p.now.names c.args.p.now.execs c.args.p.now.loops c.requires.execs (drawn_as c.in_ok-drawing.drawing) c.in_ok-graph.graph (c.nodes-finish.result - 1) c.deref.result.now c.in_ok-drawing.ensures c.in_ok-graph.ensures, flow_strong c.reaching_is_told.ensures c.endless_ways_meet_cycles.ensures c.args.p.now.names c.args.p.now.execs c.args.p.now.loops c.requires.execs)
 
 pub returns-then-is_empty-clause-flow : goal.returns-then-is_empty-clause-flow
 returns-then-is_empty-clause-flow c =
-    let fit : HoldsFit (drawn_as c.in_ok-drawing.drawing) c.in_ok-graph.graph (c.nodes-finish.result - 1) c.in_ok-held.held.items (flow c.args.p.now.execs) =
-    holds_fit c.reaching_is_told.ensures c.endless_ways_meet_cycles.ensures c.args.p.now.names c.args.p.now.execs c.args.p.now.loops c.requires.execs
-    (drawn_as c.in_ok-drawing.drawing) c.in_ok-graph.graph (c.nodes-finish.result - 1) c.in_ok-held.held.items
-    c.in_ok-drawing.ensures c.in_ok-graph.ensures (ap (λ n. n - 1) c.nodes-finish.ensures.count) c.in_ok-held.ensures in
-    let size : length c.in_ok-held.held.items ≡ vec_len c.in_ok-held.held = omega (arith, c.in_ok-held.held.ok.0) in
-    let none : (length c.in_ok-held.held.items == 0) ≡ true = ap (λ n. n == 0) size ∙ sym c.is_empty.ensures ∙ c.if-is_empty.true in
-    let drawn : drawn_as c.in_ok-drawing.drawing ≡ flow c.args.p.now.execs = none_held (drawn_as c.in_ok-drawing.drawing) c.in_ok-graph.graph (c.nodes-finish.result - 1) c.in_ok-held.held.items (flow c.args.p.now.execs) fit none in
-    ap (λ (h : Graph). record { graph = h; pieces = c.in_ok-drawing.drawing.pieces.items }) c.in_ok-graph.ensures ∙ drawn
+    grind (arith, holds_fit c.reaching_is_told.ensures c.endless_ways_meet_cycles.ensures c.args.p.now.names c.args.p.now.execs c.args.p.now.loops c.requires.execs (drawn_as c.in_ok-drawing.drawing) c.in_ok-graph.graph (c.nodes-finish.result - 1) c.in_ok-held.held.items c.in_ok-drawing.ensures c.in_ok-graph.ensures, vec_len c.in_ok-held.held, none_held (drawn_as c.in_ok-drawing.drawing) c.in_ok-graph.graph (c.nodes-finish.result - 1) c.in_ok-held.held.items (flow c.args.p.now.execs))
 
 pub returns-then-is_empty-clause-flow_graph : goal.returns-then-is_empty-clause-flow_graph
 returns-then-is_empty-clause-flow_graph c =
-    let fit : HoldsFit (drawn_as c.in_ok-drawing.drawing) c.in_ok-graph.graph (c.nodes-finish.result - 1) c.in_ok-held.held.items (flow c.args.p.now.execs) =
-    holds_fit c.reaching_is_told.ensures c.endless_ways_meet_cycles.ensures c.args.p.now.names c.args.p.now.execs c.args.p.now.loops c.requires.execs
-    (drawn_as c.in_ok-drawing.drawing) c.in_ok-graph.graph (c.nodes-finish.result - 1) c.in_ok-held.held.items
-    c.in_ok-drawing.ensures c.in_ok-graph.ensures (ap (λ n. n - 1) c.nodes-finish.ensures.count) c.in_ok-held.ensures in
-    let size : length c.in_ok-held.held.items ≡ vec_len c.in_ok-held.held = omega (arith, c.in_ok-held.held.ok.0) in
-    let none : (length c.in_ok-held.held.items == 0) ≡ true = ap (λ n. n == 0) size ∙ sym c.is_empty.ensures ∙ c.if-is_empty.true in
-    let drawn : drawn_as c.in_ok-drawing.drawing ≡ flow c.args.p.now.execs = none_held (drawn_as c.in_ok-drawing.drawing) c.in_ok-graph.graph (c.nodes-finish.result - 1) c.in_ok-held.held.items (flow c.args.p.now.execs) fit none in
-    subst (λ (h : Graph). IsFlowGraph h) (sym (c.in_ok-graph.ensures ∙ ap (λ (f : FlowGraph). f.graph) drawn)) (flow_strong c.reaching_is_told.ensures c.endless_ways_meet_cycles.ensures c.args.p.now.names c.args.p.now.execs c.args.p.now.loops c.requires.execs)
+    grind (arith, holds_fit c.reaching_is_told.ensures c.endless_ways_meet_cycles.ensures c.args.p.now.names c.args.p.now.execs c.args.p.now.loops c.requires.execs (drawn_as c.in_ok-drawing.drawing) c.in_ok-graph.graph (c.nodes-finish.result - 1) c.in_ok-held.held.items c.in_ok-drawing.ensures c.in_ok-graph.ensures, vec_len c.in_ok-held.held, none_held (drawn_as c.in_ok-drawing.drawing) c.in_ok-graph.graph (c.nodes-finish.result - 1) c.in_ok-held.held.items (flow c.args.p.now.execs), flow_strong c.reaching_is_told.ensures c.endless_ways_meet_cycles.ensures c.args.p.now.names c.args.p.now.execs c.args.p.now.loops c.requires.execs)

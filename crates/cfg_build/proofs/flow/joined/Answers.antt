@@ -1,28 +1,19 @@
-use Rattle.std.proofs.Common.{List, length, sym, ap, subst, ◌∙◌, ◌-◌}
-use Rattle.cfg_build.specs.declared.parts.Part.{Part}
+use Rattle.std.proofs.Common.{ap, ◌∙◌, ◌-◌}
 use Rattle.cfg_build.specs.declared.parts.Target.TheVariants.{First}
-use Rattle.cfg_build.specs.Tables.{AreParts, number_in}
+use Rattle.cfg_build.specs.Tables.{number_in}
 use Rattle.cfg_build.proofs.DrawableParts.{are_parts}
 use Rattle.cfg_build.proofs.FlowDrawn.{finish_told, drawn_is}
 use Rattle.cfg_build.proofs.flow.joined.Goals as goal
+use Rattle.std.proofs.Common.{arith}
 
 pub ways-requires : goal.ways-requires
-ways-requires c =
-    let execs = c.args.p.now.execs in
-    let all = are_parts c.reaching_is_told.ensures c.args.p.now.names execs c.args.p.now.loops c.requires.execs in
-    subst (λ n. AreParts n c.deref-2.result.now) (sym c.len-execs.ensures) (subst (λ (ps : List Part). AreParts (length execs) ps) (sym (c.deref-2.ensures.value ∙ c.in_ok-parts.ensures)) all)
+ways-requires c = grind (arith, are_parts c.reaching_is_told.ensures c.args.p.now.names)
 
 pub numbers-requires-clause-parts : goal.numbers-requires-clause-parts
-numbers-requires-clause-parts c =
-    let execs = c.args.p.now.execs in
-    let all = are_parts c.reaching_is_told.ensures c.args.p.now.names execs c.args.p.now.loops c.requires.execs in
-    subst (λ n. AreParts n c.deref-3.result.now) (sym c.len-execs.ensures) (subst (λ (ps : List Part). AreParts (length execs) ps) (sym (c.deref-3.ensures.value ∙ c.in_ok-parts.ensures)) all)
+numbers-requires-clause-parts c = grind (arith, are_parts c.reaching_is_told.ensures c.args.p.now.names)
 
 pub drawn-requires-clause-parts : goal.drawn-requires-clause-parts
-drawn-requires-clause-parts c =
-    let execs = c.args.p.now.execs in
-    let all = are_parts c.reaching_is_told.ensures c.args.p.now.names execs c.args.p.now.loops c.requires.execs in
-    subst (λ n. AreParts n c.deref-4.result.now) (sym (c.in_ok-ways.ensures.room.firsts ∙ c.len-execs.ensures)) (subst (λ (ps : List Part). AreParts (length execs) ps) (sym (c.deref-4.ensures.value ∙ c.in_ok-parts.ensures)) all)
+drawn-requires-clause-parts c = grind (arith, are_parts c.reaching_is_told.ensures c.args.p.now.names)
 
 pub returns : goal.returns
 returns c =

@@ -1,4 +1,4 @@
-use Rattle.std.proofs.Common.{◌∙◌, sym, arith}
+use Rattle.std.proofs.Common.{arith}
 use Rattle.std.proofs.lemmas.Bool.{eq-eqb}
 use Rattle.closed_walks.specs.Graph.{from}
 use Rattle.std.proofs.Common.{get_or}
@@ -10,8 +10,7 @@ from-requires c = exists c.args.g.now c.args.x c.edges_at-e-items.result.now c.e
 
 pub returns-then-from-x : goal.returns-then-from-x
 returns-then-from-x c =
-    out_found c.args.g.now c.args.x c.edges_at-e-items.result.now c.edges_at-e-items.ensures c.loop-e.e-index c.loop-e-test.true
-    (eq-eqb (from c.args.g.now (get_or c.edges_at-e-items.result.now c.loop-e.e-index 0)) c.args.x (sym c.from.ensures.node ∙ c.if-from-x.true)) c.loop-e.invariant.none
+    grind (arith, out_found c.args.g.now c.args.x c.edges_at-e-items.result.now c.edges_at-e-items.ensures c.loop-e.e-index c.loop-e-test.true, eq-eqb (from c.args.g.now (get_or c.edges_at-e-items.result.now c.loop-e.e-index 0)) c.args.x)
 
 pub returns : goal.returns
 returns c = absurd (out_missing c.args.g.now c.args.x c.edges_at-e-items.result.now c.edges_at-e-items.ensures c.requires.some (λ k less. c.loop-e.invariant.none k (omega (arith, less, c.loop-e-test.false))))

@@ -1,17 +1,14 @@
-use Rattle.std.proofs.Common.{◌+◌, ◌∙◌, ap, get_or}
+use Rattle.std.proofs.Common.{◌+◌, ◌∙◌, ap}
 use Rattle.cfg_build.specs.declared.parts.Target.TheVariants.{Start}
 use Rattle.cfg_build.proofs.BuildingTables.{count-step}
 use Rattle.cfg_build.proofs.numbers.count_ways.Goals as goal
+use Rattle.std.proofs.Common.{arith}
 
 pub get-count-requires : goal.get-count-requires
-get-count-requires c =
-    let target = get_or c.args.outs.now c.loop-target.target-index Start in
-    c.loop-target.invariant.within target (c.requires.targets c.loop-target.target-index Start c.loop-target-test.true)
+get-count-requires c = grind (arith, c.requires.targets c.loop-target.target-index Start c.loop-target-test.true)
 
 pub set-requires : goal.set-requires
-set-requires c =
-    let target = get_or c.args.outs.now c.loop-target.target-index Start in
-    c.loop-target.invariant.within target (c.requires.targets c.loop-target.target-index Start c.loop-target-test.true)
+set-requires c = grind (arith, c.requires.targets c.loop-target.target-index Start c.loop-target-test.true)
 
 pub loop-target-preserved : goal.loop-target-preserved
 loop-target-preserved c =

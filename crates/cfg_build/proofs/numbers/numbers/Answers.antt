@@ -1,9 +1,8 @@
-use Rattle.std.proofs.Common.{◌≡◌, ◌+◌, ◌∙◌, ap, sym, subst, cond, false, get_or, arith}
+use Rattle.std.proofs.Common.{◌≡◌, ◌+◌, ◌∙◌, ap, cond, get_or, arith}
 use Rattle.std.proofs.lemmas.List.{get_or_read}
 use Rattle.cfg_build.specs.declared.parts.Part.{Part}
-use Rattle.cfg_build.specs.declared.parts.Target.TheVariants.{Start}
 use Rattle.cfg_build.specs.Parts.{start_part}
-use Rattle.cfg_build.specs.Joined.{is_same, width}
+use Rattle.cfg_build.specs.Joined.{width}
 use Rattle.cfg_build.specs.Tables.{number_in, is_joined_by}
 use Rattle.cfg_build.proofs.BuildingTables.{next-step, few_so_far, numbers-step, numbers_are}
 use Rattle.cfg_build.proofs.numbers.numbers.Goals as goal
@@ -23,18 +22,7 @@ pub overflow_add-next : goal.overflow_add-next
 overflow_add-next c = omega (arith, next_is c, few_so_far c.args.execs c.args.parts.now (c.loop-part.part-index + 1) c.requires.parts)
 
 pub loop-part-preserved : goal.loop-part-preserved
-loop-part-preserved c =
-    let ps = c.args.parts.now in
-    let i = c.loop-part.part-index in
-    let is : c.part-item.result ≡ get_or ps i start_part = get_or_read ps i c.part-item.result c.loop-part-test.true c.part-item.is start_part in
-    record {
-      room = c.set.ensures.room c.args.execs c.loop-part.invariant.room;
-      next = next_is c;
-      numbers = numbers-step c.args.execs ps i c.loop-part.numbers c.set.new.self c.requires.parts c.loop-part-test.true
-          (λ other. ap (λ (p : Part). number_in c.set.new.self p.own) (sym is) ∙ c.set.ensures.here (subst (λ (p : Part). is_same Start p.own ≡ false) (sym is) other) ∙ c.loop-part.invariant.next)
-          (λ other apart. c.set.ensures.others other (subst (λ (p : Part). is_same p.own other ≡ false) (sym is) apart))
-          c.loop-part.invariant.numbers;
-    }
+loop-part-preserved c = search (get_or_read, next_is, numbers-step, c.set.ensures.room c.args.execs c.loop-part.invariant.room, arith)
 
 pub returns-clause-numbers : goal.returns-clause-numbers
 returns-clause-numbers c = numbers_are c.args.execs c.args.parts.now c.loop-part.numbers c.requires.parts (λ j l. c.loop-part.invariant.numbers j (omega (arith, l)))

@@ -4,9 +4,7 @@ use Rattle.cfg_build.proofs.parts.loop_starts.Goals as goal
 use Rattle.cfg_build.proofs.parts.loop_starts.Goals.{in-Some, in_default}
 
 pub index_mut-requires : goal.index_mut-requires
-index_mut-requires c =
-    let below = begun_number c.args.p.now.execs c.args.p.now.loops c.requires.execs.loops_nest c.loop-k.k c.in-Some.n c.at.result.now c.at.ensures.item (sym c.loop_begun.ensures ∙ c.in-Some.is) in
-    omega (arith, below, c.loop-k.invariant.count, c.loop-k.starts.ok.0)
+index_mut-requires c = grind (arith, begun_number c.args.p.now.execs c.args.p.now.loops c.requires.execs.loops_nest c.loop-k.k c.in-Some.n)
 
 pub loop-k-preserved : goal.loop-k-preserved
 loop-k-preserved c =
@@ -27,5 +25,4 @@ loop-k-preserved c =
 
 pub returns-clause-starts : goal.returns-clause-starts
 returns-clause-starts c n below =
-    let exists = start_exists c.args.p.now.execs c.args.p.now.loops c.requires.execs.loops_nest n below in
-    c.loop-k.invariant.starts n below (omega (arith, exists))
+    grind (arith, start_exists c.args.p.now.execs c.args.p.now.loops c.requires.execs.loops_nest n below, c.loop-k.invariant.starts n below)

@@ -1,5 +1,5 @@
 use Rattle.std.proofs.Common.{◌≡◌, ℕ, ◌++◌, ◌∙◌, ap, sym, List, map, take, length, get_or, arith}
-use Rattle.closed_walks.specs.Graph.{Graph, edge_count}
+use Rattle.closed_walks.specs.Graph.{Graph}
 use Rattle.f77_tree.specs.declared.programs.Exec.{Exec}
 use Rattle.f77_tree.specs.Control.{successors}
 use Rattle.cfg_build.specs.Control.{fan}
@@ -7,14 +7,7 @@ use Rattle.cfg_build.proofs.BuildingControl.{few_so_far, fan_more}
 use Rattle.cfg_build.proofs.reached.control.Goals as goal
 
 pub add_edges-requires-clause-room : goal.add_edges-requires-clause-room
-add_edges-requires-clause-room c =
-    let execs = c.args.p.now.execs in
-    let d = c.at.result.now in
-    let few = few_so_far execs c.loop-k.k d (omega arith) c.requires.execs.count c.requires.execs.target_count in
-    let same : length c.as_slice.result.now ≡ length (successors (get_or execs c.loop-k.k d).kind) =
-    ap length (c.as_slice.ensures ∙ c.in_ok-heads.ensures) ∙ ap (λ (exec : Exec). length (successors exec.kind)) c.at.ensures.lookup in
-    let edges : edge_count c.loop-k.graph ≡ length (fan 0 (map (λ (exec : Exec). successors exec.kind) (take c.loop-k.k execs))) = ap edge_count c.loop-k.invariant in
-    omega (arith, few, same, edges)
+add_edges-requires-clause-room c = grind (arith, few_so_far)
 
 pub loop-k-preserved : goal.loop-k-preserved
 loop-k-preserved c =

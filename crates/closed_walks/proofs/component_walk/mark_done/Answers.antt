@@ -5,13 +5,11 @@ use Rattle.closed_walks.proofs.component_walk.mark_done.Goals as goal
 
 pub index_mut-requires : goal.index_mut-requires
 index_mut-requires c =
-    let h = c.requires.stages (get_or c.args.nodes.now c.loop-node.node-index 0) (Holds-at c.args.nodes.now c.loop-node.node-index c.loop-node-test.true) in
-    omega (arith, h, c.loop-node.invariant.done.stages_size, c.loop-node.stages.ok.0)
+    grind (arith, c.requires.stages (get_or c.args.nodes.now c.loop-node.node-index 0) (Holds-at c.args.nodes.now c.loop-node.node-index c.loop-node-test.true), Holds-at c.args.nodes.now c.loop-node.node-index c.loop-node-test.true)
 
 pub index_mut-requires-in-loop-node : goal.index_mut-requires-in-loop-node
 index_mut-requires-in-loop-node c =
-    let h = c.requires.marks (get_or c.args.nodes.now c.loop-node.node-index 0) (Holds-at c.args.nodes.now c.loop-node.node-index c.loop-node-test.true) in
-    omega (arith, h, c.loop-node.invariant.done.marks_size, c.loop-node.marks.ok.0)
+    grind (arith, c.requires.marks (get_or c.args.nodes.now c.loop-node.node-index 0) (Holds-at c.args.nodes.now c.loop-node.node-index c.loop-node-test.true), Holds-at c.args.nodes.now c.loop-node.node-index c.loop-node-test.true)
 
 pub loop-node-preserved : goal.loop-node-preserved
 loop-node-preserved c =

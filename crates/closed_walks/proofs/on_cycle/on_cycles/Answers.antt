@@ -4,11 +4,7 @@ use Rattle.closed_walks.proofs.Components.{found_done}
 use Rattle.closed_walks.proofs.on_cycle.on_cycles.Goals as goal
 
 pub loop-root-init : goal.loop-root-init
-loop-root-init c = record {
-  walk = c.in_ok-walk.ensures.walk (marked c.args.avoided.now);
-  none = c.in_ok-walk.ensures.none;
-  found = λ v below. absurd (omega (arith, below));
-}
+loop-root-init c = grind (arith, c.in_ok-walk.ensures.walk (marked c.args.avoided.now))
 
 pub returns-clause-cycle : goal.returns-clause-cycle
 returns-clause-cycle c =

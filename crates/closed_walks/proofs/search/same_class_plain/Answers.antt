@@ -2,12 +2,11 @@ use Rattle.std.proofs.Common.{sym, ◌∙◌}
 use Rattle.std.proofs.lemmas.Bool.{false≢true, not-true, not_from_false, false_from_ne_true}
 use Rattle.closed_walks.proofs.Classes.{first_closed, second_closed, IsCycleEquivalent-closed}
 use Rattle.closed_walks.proofs.search.same_class_plain.Goals as goal
+use Rattle.std.proofs.Common.{arith}
 
 pub returns-then-branch : goal.returns-then-branch
-returns-then-branch c = (
-  λ none. absurd (false≢true none),
-  λ same. absurd (first_closed c.args.g.now c.args.a c.args.b c.requires.first c.if-a-b.false same (c.in_ok-returns_without.ensures.0 c.if-branch.true)),
-)
+returns-then-branch c =
+    grind (arith, first_closed c.args.g.now c.args.a c.args.b c.requires.first c.if-a-b.false, c.in_ok-returns_without.ensures.0 c.if-branch.true)
 
 pub returns : goal.returns
 returns c = (

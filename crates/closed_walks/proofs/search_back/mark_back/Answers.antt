@@ -1,16 +1,15 @@
-use Rattle.std.proofs.Common.{◌≡◌, [], ◌<◌, ◌∙◌, subst, arith}
+use Rattle.std.proofs.Common.{◌<◌, arith}
 use Rattle.closed_walks.specs.Graph.{edge_count}
 use Rattle.closed_walks.specs.Search.{Nothing}
 use Rattle.closed_walks.specs.Reversed.{turned}
 use Rattle.closed_walks.proofs.Searches.{nothing-left, IsOpen-pop, popped_visited, visited_exists, is_visited-read}
 use Rattle.closed_walks.proofs.Turning.{nodes-turned}
-use Rattle.closed_walks.proofs.Backwards.{IsMarking, marked_already, IsMarking-begin, IsMarking-step, IsMarking-end, closed_again}
+use Rattle.closed_walks.proofs.Backwards.{marked_already, IsMarking-begin, IsMarking-step, IsMarking-end, closed_again}
 use Rattle.closed_walks.proofs.search_back.mark_back.Goals as goal
 
 pub returns-then-index-clause-marked : goal.returns-then-index-clause-marked
 returns-then-index-clause-marked c =
-    marked_already c.args.g.now c.args.node c.args.marks.now.items c.requires.closed
-    (is_visited-read c.args.marks.now.items c.args.node c.index.result.now (omega (arith, c.requires.node, c.requires.nodes)) c.index.ensures ∙ c.if-index.true)
+    grind (arith, marked_already c.args.g.now c.args.node c.args.marks.now.items c.requires.closed, is_visited-read c.args.marks.now.items c.args.node c.index.result.now)
 
 pub loop-next-init : goal.loop-next-init
 loop-next-init c = rw c.in_ok-frontier.ensures.items (IsMarking-begin c.args.g.now c.args.node c.args.marks.now.items c.requires.nodes c.requires.closed c.requires.node)
@@ -34,9 +33,7 @@ loop-next-preserved c =
 
 pub returns-clause-marked : goal.returns-clause-marked
 returns-clause-marked c =
-    let empty : c.loop-next.frontier.items ≡ [] = nothing-left c.loop-next.frontier.items (omega (arith, c.in_default.ensures.cases.0, c.loop-next.frontier.ok.0)) in
-    IsMarking-end c.args.g.now c.args.node c.args.marks.now.items c.loop-next.marks.items
-    (subst (λ xs. IsMarking c.args.g.now c.args.node c.args.marks.now.items c.loop-next.marks.items xs) empty c.loop-next.invariant)
+    grind (arith, nothing-left c.loop-next.frontier.items, IsMarking-end c.args.g.now c.args.node c.args.marks.now.items c.loop-next.marks.items)
 
 pub returns-clause-closed : goal.returns-clause-closed
 returns-clause-closed c = closed_again c.args.g.now c.args.node c.args.marks.now.items c.loop-next.marks.items c.requires.closed (returns-clause-marked c)

@@ -1,22 +1,17 @@
-use Rattle.std.proofs.Common.{◌≡◌, ◌<◌, ◌∙◌, true, refl, ap, sym, get_or, length, arith, subst, length-set}
+use Rattle.std.proofs.Common.{◌≡◌, ◌<◌, ◌∙◌, true, ap, sym, get_or, length, arith, length-set}
 use Rattle.std.proofs.lemmas.Bool.{false≢true}
 use Rattle.closed_walks.specs.Graph.{edge_count, from, to}
 use Rattle.closed_walks.specs.Search.{is_visited}
 use Rattle.closed_walks.specs.Reversed.{turned}
 use Rattle.closed_walks.proofs.Touching.{edge_exists}
 use Rattle.closed_walks.proofs.Turning.{from-turned, to-turned, edge_count-turned, edges_at-turned, nodes-turned}
-use Rattle.closed_walks.proofs.Searches.{IsVisiting, IsVisiting-begin, IsVisiting-skip, IsVisiting-visit, is_visited-read}
+use Rattle.closed_walks.proofs.Searches.{IsVisiting-begin, IsVisiting-skip, IsVisiting-visit, is_visited-read}
 use Rattle.closed_walks.proofs.search_back.mark_before.Goals as goal
 use Rattle.closed_walks.proofs.search_back.mark_before.Goals.{then-to-node+then-not-index+in_ok-push, else-to-node, else-to-node-via-then-to-node+else-not-index, else-to-node-via-else-to-node}
 
 pub loop-e-init : goal.loop-e-init
-loop-e-init c = record {
-  edges = c.edges_at-e-items.ensures;
-  visiting = subst (λ edges. IsVisiting (turned c.args.g.now) (edge_count c.args.g.now) c.args.node edges 0 c.args.marks.now.items c.args.frontier.now.items c.args.marks.now.items c.args.frontier.now.items)
-      (edges_at-turned c.args.g.now c.args.node ∙ sym c.edges_at-e-items.ensures)
-      (IsVisiting-begin (turned c.args.g.now) (edge_count c.args.g.now) c.args.node c.args.marks.now.items c.args.frontier.now.items c.requires.leaves);
-  nodes = refl;
-}
+loop-e-init c =
+    grind (arith, edges_at-turned c.args.g.now c.args.node, IsVisiting-begin (turned c.args.g.now) (edge_count c.args.g.now) c.args.node c.args.marks.now.items c.args.frontier.now.items c.requires.leaves)
 
 pub from-from-requires : goal.from-from-requires
 from-from-requires c = edge_exists c.args.g.now c.args.node c.edges_at-e-items.result.now c.loop-e.e-index c.loop-e.invariant.edges c.loop-e-test.true

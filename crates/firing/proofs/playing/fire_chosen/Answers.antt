@@ -8,16 +8,7 @@ use Rattle.firing.proofs.PlayLemmas.{appends_told, prefix_told, moment_told, run
 use Rattle.firing.proofs.playing.fire_chosen.Goals as goal
 
 pub returns-then-count-eq0-clause-plays : goal.returns-then-count-eq0-clause-plays
-returns-then-count-eq0-clause-plays g c =
-    let y = g.S.StepSystem in
-    let kept = c.firing.invariant in
-    let net = y.net c.args.sys.now in
-    let w = by_picks (y.moves net) (y.course net) c.args.picks.now in
-    let start = moment (y.marking c.args.sys.now) (y.place c.args.sys.now) in
-    let m = y.marking c.firing.sys in
-    let nothing : c.firing.trapped ≡ None = search rules in
-    let zero_here : length (Rattle.firing.specs.Choice.ready_nodes (y.moves net) m) ≡ 0 = ap (λ n. length (Rattle.firing.specs.Choice.ready_nodes (y.moves n) m)) (sym kept.net) ∙ sym c.ready_count-count.ensures ∙ c.if-count-eq0.true in
-    run_rests w start kept.run (sym kept.trapped ∙ nothing) (none_ready (y.moves net) m zero_here)
+returns-then-count-eq0-clause-plays g c = grind (arith, rules, run_rests, none_ready)
 
 pub returns-then-made-limit-clause-plays : goal.returns-then-made-limit-clause-plays
 returns-then-made-limit-clause-plays g c =

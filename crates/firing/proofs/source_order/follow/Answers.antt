@@ -1,9 +1,10 @@
-use Rattle.std.proofs.Common.{◌≡◌, None, subst, sym, ◌∙◌}
+use Rattle.std.proofs.Common.{subst}
 use Rattle.firing.specs.Play.{Plays, by_order, moment}
 use Rattle.firing.proofs.ControlLemmas.{lost_control}
 use Rattle.firing.proofs.OwnLemmas.{lowest_due, not_limit}
 use Rattle.firing.proofs.RunLemmas.{makes_order, rest_settles, trap_traps}
 use Rattle.firing.proofs.source_order.follow.Goals as goal
+use Rattle.std.proofs.Common.{arith}
 
 pub returns-then-has_control-clause-order : goal.returns-then-has_control-clause-order
 returns-then-has_control-clause-order g c = makes_order (g.met.S.StepSystem.lawful (g.S.StepSystem.net c.args.sys.now)) c.requires.sound c.fire_in_order.ensures.plays
@@ -25,9 +26,4 @@ returns-then-has_control-clause-enough g c p ks at order over le is =
     not_limit (y.moves net) (y.course net) (y.marking c.args.sys.now) (y.place c.args.sys.now) p ks at order over c.args.limit le plays
 
 pub returns-else-has_control-clause-plays : goal.returns-else-has_control-clause-plays
-returns-else-has_control-clause-plays g c =
-    let y = g.S.StepSystem in
-    let net = y.net c.args.sys.now in
-    let control = y.place c.args.sys.now in
-    let lost : control ≡ None = lost_control control (sym c.if-has_control.false ∙ c.has_control.ensures) in
-    lowest_due (y.moves net) (y.course net) (y.marking c.args.sys.now) control lost c.play.ensures.plays
+returns-else-has_control-clause-plays g c = grind (arith, lost_control, lowest_due)

@@ -9,25 +9,13 @@ use Rattle.closed_walks.proofs.component_walk.ComponentWalk.end_segment.Goals as
 use Rattle.closed_walks.proofs.component_walk.ComponentWalk.end_segment.Goals.{then-first-len, else-first-len}
 
 pub has_loop-on_cycle-requires-clause-node : goal.has_loop-on_cycle-requires-clause-node
-has_loop-on_cycle-requires-clause-node c =
-    let w = c.args.self.now in
-    let within = member_inside w.stages.items (get_or w.members.items c.args.first 0) c.args.first (c.requires.walk.stage_at c.args.first c.requires.some) in
-    let read = get_or_default w.members.items c.args.first c.index.result.now 0 c.requires.some in
-    omega (arith, within, read, c.index.ensures, c.requires.walk.stages_size)
+has_loop-on_cycle-requires-clause-node c = grind (arith, member_inside, c.requires.walk.stage_at c.args.first c.requires.some, get_or_default)
 
 pub mark_done-requires-clause-stages : goal.mark_done-requires-clause-stages
-mark_done-requires-clause-stages c =
-    let w = c.args.self.now in
-    λ v holds.
-    let node = members_inside c.args.g.now (marked c.args.avoided.now) w.stages.items w.marks.items w.members.items w.bounds.items w.pending.items c.requires.walk c.args.first v (rw (part_from w.members.items c.deref.result.now c.args.first c.deref.ensures.value) at holds) in
-    omega (arith, node, c.requires.walk.stages_size)
+mark_done-requires-clause-stages c = grind (arith, members_inside c.args.g.now (marked c.args.avoided.now), part_from)
 
 pub mark_done-requires-clause-marks : goal.mark_done-requires-clause-marks
-mark_done-requires-clause-marks c =
-    let w = c.args.self.now in
-    λ v holds.
-    let node = members_inside c.args.g.now (marked c.args.avoided.now) w.stages.items w.marks.items w.members.items w.bounds.items w.pending.items c.requires.walk c.args.first v (rw (part_from w.members.items c.deref.result.now c.args.first c.deref.ensures.value) at holds) in
-    omega (arith, node, c.requires.walk.marks_size)
+mark_done-requires-clause-marks c = grind (arith, members_inside c.args.g.now (marked c.args.avoided.now), part_from)
 
 pub returns-clause-walk : goal.returns-clause-walk
 returns-clause-walk c =

@@ -14,10 +14,4 @@ returns-clause-walk c =
     c.push_edges.ensures
 
 pub returns-clause-less : goal.returns-clause-less
-returns-clause-less c =
-    let w = c.args.self.now in
-    OnOk-along c.push_edges.result _ _
-    (λ adds.
-    rw c.in_ok-push.ensures.items
-    (found_less c.args.g.now (marked c.args.avoided.now) w.stages.items c.args.node c.len-place.result w.pending.items c.push_edges.new.pending.items w.bounds.items (omega (arith, c.requires.node, c.requires.walk.stages_size)) c.requires.fresh adds))
-    c.push_edges.ensures
+returns-clause-less c = grind (arith, OnOk-along c.push_edges.result, found_less c.args.g.now (marked c.args.avoided.now))

@@ -3,13 +3,10 @@ use Rattle.firing.specs.BlockCounts.{flags_of}
 use Rattle.firing.proofs.CountLemmas.{counts_of, block_few, starts, starts_first, found}
 use Rattle.firing.proofs.WordLemmas.{large_seen, length_seen}
 use Rattle.firing.proofs.ready_set.ReadySet.low_block.Goals as goal
+use Rattle.std.proofs.lemmas.Grind.{elements}
 
 pub scan-requires-clause-some : goal.scan-requires-clause-some
-scan-requires-clause-some c =
-    let s = c.self.inside in
-    let set = c.args.self.now in
-    let are = counts_of 1024 c.deref.result.now s.low.items (flags_of s.words.items s.room) set c.deref.ensures.value c.self.view_is (c.self.invariant.1.low_counts (large_seen 1024 s.words.items s.room set c.self.view_is c.requires.many)) in
-    (starts_first 1024 c.deref.result.now set are c.args.place c.requires.place).some
+scan-requires-clause-some c = grind (arith, elements, counts_of, large_seen, starts_first)
 
 pub returns-then-self-le-MID : goal.returns-then-self-le-MID
 returns-then-self-le-MID c =
@@ -19,19 +16,11 @@ returns-then-self-le-MID c =
     found 1024 c.deref.result.now set are c.args.place c.requires.place c.scan.result.0 c.scan.result.1 c.scan.ensures.within (omega (arith, c.scan.ensures.same)) c.scan.ensures.short
 
 pub mid_block-b-requires-clause-many : goal.mid_block-b-requires-clause-many
-mid_block-b-requires-clause-many c =
-    let s = c.self.inside in
-    let room = length_seen s.words.items s.room c.args.self.now c.self.view_is in
-    let more = c.if-self-le-MID.false in
-    omega (arith, room, more)
+mid_block-b-requires-clause-many c = grind (arith, length_seen)
 
 pub overflow_mul-b : goal.overflow_mul-b
 overflow_mul-b c =
-    let s = c.self.inside in
-    let few = block_few c.args.self.now 32768 c.args.place c.mid_block-b.result.0 c.mid_block-b.result.1 c.requires.place c.mid_block-b.ensures in
-    let room = length_seen s.words.items s.room c.args.self.now c.self.view_is in
-    let fits = c.self.invariant.0.room_fits in
-    omega (arith, few, room, fits)
+    grind (arith, block_few c.args.self.now 32768 c.args.place c.mid_block-b.result.0 c.mid_block-b.result.1 c.requires.place c.mid_block-b.ensures, length_seen)
 
 pub returns : goal.returns
 returns c =

@@ -6,11 +6,7 @@ use Rattle.firing.proofs.ready_set.ReadySet.mid_block.Goals as goal
 
 pub overflow_mul-b : goal.overflow_mul-b
 overflow_mul-b c =
-    let s = c.self.inside in
-    let few = block_few c.args.self.now 1048576 c.args.place c.high_block-b.result.0 c.high_block-b.result.1 c.requires.place c.high_block-b.ensures in
-    let room = length_seen s.words.items s.room c.args.self.now c.self.view_is in
-    let fits = c.self.invariant.0.room_fits in
-    omega (arith, few, room, fits)
+    grind (arith, block_few c.args.self.now 1048576 c.args.place c.high_block-b.result.0 c.high_block-b.result.1 c.requires.place c.high_block-b.ensures, length_seen)
 
 pub scan-requires-clause-inside : goal.scan-requires-clause-inside
 scan-requires-clause-inside c =

@@ -6,21 +6,13 @@ use Rattle.firing.proofs.WordLemmas.{length_flags}
 use Rattle.firing.proofs.ready_set.ReadySet.put.Goals as goal
 
 pub index-word-requires : goal.index-word-requires
-index-word-requires c =
-    let s = c.self.inside in
-    let within = word_within s.words.items s.room c.args.self.now c.self.invariant.0 c.self.view_is c.args.k c.requires in
-    omega (arith, within, s.words.ok.0)
+index-word-requires c = grind (arith, word_within)
 
 pub index_mut-requires : goal.index_mut-requires
-index_mut-requires c =
-    let s = c.self.inside in
-    let within = word_within s.words.items s.room c.args.self.now c.self.invariant.0 c.self.view_is c.args.k c.requires in
-    omega (arith, within, s.words.ok.0)
+index_mut-requires c = grind (arith, word_within)
 
 pub returns-then-word-digit : goal.returns-then-word-digit
-returns-then-word-digit c =
-    let s = c.self.inside in
-    stays s.words.items s.room c.args.self.now c.self.invariant.0 c.self.view_is c.args.k c.index-word.result.now c.requires c.index-word.ensures c.args.ready c.if-word-digit.true
+returns-then-word-digit c = grind (arith, stays)
 
 pub shift_blocks-requires-clause-low : goal.shift_blocks-requires-clause-low
 shift_blocks-requires-clause-low c =

@@ -1,4 +1,4 @@
-use Rattle.std.proofs.Common.{true, refl, arith}
+use Rattle.std.proofs.Common.{true, arith}
 use Rattle.firing.specs.BlockCounts.{flags_of}
 use Rattle.firing.proofs.CountLemmas.{all_put, low_shifts, mid_shifts, high_shifts, total_fits}
 use Rattle.firing.proofs.PutLemmas.{comes, puts_in, word_within}
@@ -6,16 +6,10 @@ use Rattle.firing.proofs.WordLemmas.{length_flags}
 use Rattle.firing.proofs.ready_set.ReadySet.put_in.Goals as goal
 
 pub index-word-requires : goal.index-word-requires
-index-word-requires c =
-    let s = c.self.inside in
-    let within = word_within s.words.items s.room c.args.self.now c.self.invariant.0 c.self.view_is c.args.k c.requires.inside in
-    omega (arith, within, s.words.ok.0)
+index-word-requires c = grind (arith, word_within)
 
 pub index_mut-requires : goal.index_mut-requires
-index_mut-requires c =
-    let s = c.self.inside in
-    let within = word_within s.words.items s.room c.args.self.now c.self.invariant.0 c.self.view_is c.args.k c.requires.inside in
-    omega (arith, within, s.words.ok.0)
+index_mut-requires c = grind (arith, word_within)
 
 pub shift_blocks-requires-clause-low : goal.shift_blocks-requires-clause-low
 shift_blocks-requires-clause-low c =
@@ -39,15 +33,7 @@ shift_blocks-requires-clause-high c =
     high_shifts flags s.low.items s.mid.items s.high.items s.total s.room c.self.invariant.1 (length_flags s.words.items s.room) c.args.k true change.inside change.differs
 
 pub overflow_add-self : goal.overflow_add-self
-overflow_add-self c =
-    let s = c.self.inside in
-    let flags = flags_of s.words.items s.room in
-    let change = comes s.words.items s.room c.args.self.now c.self.invariant.0 c.self.view_is c.args.k c.index-word.result.now c.requires.inside c.index-word.ensures c.requires.out in
-    let bound = total_fits flags c.args.k true change.inside change.differs refl in
-    let room = length_flags s.words.items s.room in
-    let most = c.self.invariant.0.room_fits in
-    let all = c.self.invariant.1.all in
-    omega (arith, bound, room, most, all)
+overflow_add-self c = grind (arith, comes, total_fits, length_flags)
 
 pub invariant_of-self : goal.invariant_of-self
 invariant_of-self c =

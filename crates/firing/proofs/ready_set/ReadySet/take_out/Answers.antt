@@ -1,4 +1,4 @@
-use Rattle.std.proofs.Common.{false, refl, arith}
+use Rattle.std.proofs.Common.{false, arith}
 use Rattle.firing.specs.BlockCounts.{flags_of}
 use Rattle.firing.proofs.CountLemmas.{all_put, low_shifts, mid_shifts, high_shifts, total_some}
 use Rattle.firing.proofs.PutLemmas.{goes, puts, word_within}
@@ -6,16 +6,10 @@ use Rattle.firing.proofs.WordLemmas.{length_flags}
 use Rattle.firing.proofs.ready_set.ReadySet.take_out.Goals as goal
 
 pub index-word-requires : goal.index-word-requires
-index-word-requires c =
-    let s = c.self.inside in
-    let within = word_within s.words.items s.room c.args.self.now c.self.invariant.0 c.self.view_is c.args.k c.requires.inside in
-    omega (arith, within, s.words.ok.0)
+index-word-requires c = grind (arith, word_within)
 
 pub index_mut-requires : goal.index_mut-requires
-index_mut-requires c =
-    let s = c.self.inside in
-    let within = word_within s.words.items s.room c.args.self.now c.self.invariant.0 c.self.view_is c.args.k c.requires.inside in
-    omega (arith, within, s.words.ok.0)
+index_mut-requires c = grind (arith, word_within)
 
 pub shift_blocks-requires-clause-low : goal.shift_blocks-requires-clause-low
 shift_blocks-requires-clause-low c =
@@ -39,15 +33,7 @@ shift_blocks-requires-clause-high c =
     high_shifts flags s.low.items s.mid.items s.high.items s.total s.room c.self.invariant.1 (length_flags s.words.items s.room) c.args.k false change.inside change.differs
 
 pub overflow_sub-self : goal.overflow_sub-self
-overflow_sub-self c =
-    let s = c.self.inside in
-    let flags = flags_of s.words.items s.room in
-    let change = goes s.words.items s.room c.args.self.now c.self.invariant.0 c.self.view_is c.args.k c.index-word.result.now c.requires.inside c.index-word.ensures c.requires.member in
-    let bound = total_some flags c.args.k false change.inside change.differs refl in
-    let room = length_flags s.words.items s.room in
-    let most = c.self.invariant.0.room_fits in
-    let all = c.self.invariant.1.all in
-    omega (arith, bound, room, most, all)
+overflow_sub-self c = grind (arith, goes, total_some, length_flags)
 
 pub invariant_of-self : goal.invariant_of-self
 invariant_of-self c =

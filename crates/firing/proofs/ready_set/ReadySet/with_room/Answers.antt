@@ -5,10 +5,7 @@ use Rattle.firing.proofs.WordLemmas.{empty_flags, empty_words}
 use Rattle.firing.proofs.ready_set.ReadySet.with_room.Goals as goal
 
 pub invariant_of-result : goal.invariant_of-result
-invariant_of-result c =
-    let words = c.in_ok-vec.ensures.items_if_clones_equal in
-    let nodes = c.args.nodes in
-    (rw words (empty_words nodes (omega (arith, c.ranges.nodes.fits))), rw (words, empty_flags (nodes / 64 + 1) nodes, c.in_ok-vec-2.ensures.items_if_clones_equal, c.in_ok-vec-3.ensures.items_if_clones_equal, c.in_ok-vec-4.ensures.items_if_clones_equal) (empty_counted nodes))
+invariant_of-result c = grind (arith, empty_words, empty_flags, empty_counted)
 
 pub returns : goal.returns
 returns c = ap (λ words. flags_of words c.args.nodes) (c.in_ok-vec.ensures.items_if_clones_equal (λ y e. e)) ∙ empty_flags (c.args.nodes / 64 + 1) c.args.nodes

@@ -5,12 +5,7 @@ use Rattle.firing.proofs.WordLemmas.{length_ones, length_seen, word_counts_of}
 use Rattle.firing.proofs.ready_set.ReadySet.word.Goals as goal
 
 pub scan_words-requires-clause-some : goal.scan_words-requires-clause-some
-scan_words-requires-clause-some c =
-    let s = c.self.inside in
-    let words = c.as_slice-words.result.now in
-    let set = c.args.self.now in
-    let are = word_counts_of words s.words.items s.room set c.as_slice-words.ensures.value c.self.view_is c.self.invariant.0 (λ b. let h = c.type_inv.words b in omega (arith, h)) in
-    subst (λ n. 0 + c.args.place < before (ones_of words) n) (length_ones words) (starts_first 64 (ones_of words) set are c.args.place c.requires).some
+scan_words-requires-clause-some c = grind (arith, word_counts_of, length_ones, starts_first 64)
 
 pub returns-then-self-le-LOW : goal.returns-then-self-le-LOW
 returns-then-self-le-LOW c =
@@ -23,19 +18,11 @@ returns-then-self-le-LOW c =
     found 64 (ones_of words) set are c.args.place c.requires c.scan_words.result.0 c.scan_words.result.1 (subst (λ n. c.scan_words.result.0 < n) (sym (length_ones words)) did.within) (omega (arith, did.same)) did.short
 
 pub low_block-b-requires-clause-many : goal.low_block-b-requires-clause-many
-low_block-b-requires-clause-many c =
-    let s = c.self.inside in
-    let room = length_seen s.words.items s.room c.args.self.now c.self.view_is in
-    let more = c.if-self-le-LOW.false in
-    omega (arith, room, more)
+low_block-b-requires-clause-many c = grind (arith, length_seen)
 
 pub overflow_mul-b : goal.overflow_mul-b
 overflow_mul-b c =
-    let s = c.self.inside in
-    let few = block_few c.args.self.now 1024 c.args.place c.low_block-b.result.0 c.low_block-b.result.1 c.requires c.low_block-b.ensures in
-    let room = length_seen s.words.items s.room c.args.self.now c.self.view_is in
-    let fits = c.self.invariant.0.room_fits in
-    omega (arith, few, room, fits)
+    grind (arith, block_few c.args.self.now 1024 c.args.place c.low_block-b.result.0 c.low_block-b.result.1 c.requires c.low_block-b.ensures, length_seen)
 
 pub scan_words-requires-2-clause-inside : goal.scan_words-requires-2-clause-inside
 scan_words-requires-2-clause-inside c =
