@@ -1,2 +1,1 @@
-mod Grid
-mod Marks
+pub mod MoreSections

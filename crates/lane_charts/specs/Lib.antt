@@ -1,2 +1,3 @@
-pub mod ChartMarks
-pub mod RoundsGrid
+pub mod Page
+pub mod Pictures
+pub mod Sections

@@ -1,29 +1,16 @@
-//! Pictures of a program's dataflow graph and of its runs, as SVG.
+//! Pictures of a program's dataflow graph and of its runs: the lane chart and the rounds of a run as SVG, and a page that
+//! steps through runs.
 //!
-//! A picture is laid out first, as values with whole numbers for places, and then drawn from them.
+//! A picture is laid out first, as values with whole numbers for places (the crates `lane_layout` and `round_charts`), and
+//! then drawn from them.
 #![tactic(auto)]
 
-mod chart_frames;
-mod chart_lanes;
-mod chart_layout;
-mod chart_marks;
-mod chart_rows;
-mod chart_ways;
-mod draw_lanes;
-mod draw_page;
-mod draw_rounds;
-mod drawing;
-mod fault;
-mod labels;
-mod nodes;
-mod page_script;
-mod rounds_layout;
-mod source_lines;
-mod style;
-mod terms;
+mod chart;
+mod pages;
+mod script;
+mod sections;
 
-pub use draw_lanes::lane_chart;
-pub use draw_page::{Run, page};
-pub use draw_rounds::rounds_chart;
-use drawing::Drawing;
-pub use fault::ChartFault;
+pub use chart::lane_chart;
+pub use pages::{Run, page};
+pub use round_charts::rounds_chart;
+pub use svg_text::ChartFault;

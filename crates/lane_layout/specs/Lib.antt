@@ -1,0 +1,4 @@
+pub mod Chart
+pub mod Page
+pub mod Rows
+pub mod Spots

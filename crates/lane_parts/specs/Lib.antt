@@ -1,0 +1,4 @@
+pub mod Chart
+pub mod Grounds
+pub mod Marks
+pub mod Ways
