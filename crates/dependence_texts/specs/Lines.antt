@@ -1,5 +1,5 @@
 -- Dependences as lines of text. The numbers are those of lines of the program's text.
-use Rattle.std.specs.Prelude.{ℕ, Bool, true, false, ◌&&◌, if◌then◌else◌, List, [], ◌++◌, Option, None, Some, Vec, codes, flat_map, slice_get}
+use Rattle.std.specs.Prelude.{ℕ, ◌==◌, Bool, true, false, ◌&&◌, if◌then◌else◌, List, [], ◌++◌, Option, None, Some, Vec, codes, flat_map, slice_get}
 use Rattle.std.specs.Fmt.{decimal}
 use Rattle.std.specs.declared.alloc.Global.{Global}
 use Rattle.printed_graphs.specs.declared.dataflow.PrintedGraph.{PrintedGraph}
@@ -54,6 +54,10 @@ abbrev pub is_never : Wait → Bool
 is_never wait.Never = true
 is_never _ = false
 
+-- how the first statement waits for the second, where it is another one
+abbrev pub back_text : (first second : ℕ) → (back : Wait) → List ℕ
+back_text first second back = if first == second then [] else wait_text first second back
+
 -- how two statements wait for one another: the second for the first, and the first for the second
 abbrev pub independence_text : (first second : ℕ) → (forth back : Wait) → List ℕ
-independence_text first second forth back = if is_never forth && is_never back then codes "INDEPENDENT\n" else wait_text second first forth ++ wait_text first second back
+independence_text first second forth back = if is_never forth && is_never back then codes "INDEPENDENT\n" else wait_text second first forth ++ back_text first second back

@@ -2,8 +2,8 @@
 
 ghost use Rattle.std.specs.Prelude.{◌≡◌, ◌&&◌, ◌++◌, IfOk, OnOk, codes, flat_map, string_bytes};
 ghost use Rattle.std.specs.Fmt.{decimal};
-ghost use Rattle.dependence_texts.specs.Lines.{dependence_text, end_text as spec_end_text, independence_text as spec_independence_text, is_never, kind_text, line_of, names_text, spaced, wait_text as spec_wait_text};
-ghost use Rattle.dependence_texts.specs.Told.{ToldDependences, ToldIndependence};
+ghost use Rattle.dependence_texts.specs.Lines.{back_text as spec_back_text, dependence_text, end_text as spec_end_text, independence_text as spec_independence_text, is_never, kind_text, line_of, names_text, spaced, wait_text as spec_wait_text};
+ghost use Rattle.dependence_texts.specs.Told.{ToldDependences, ToldIndependence, fault_of as spec_fault_of};
 ghost use Rattle.view_output.specs.Told.{told};
 
 use crate::parts::WaitLine;
@@ -75,9 +75,20 @@ fn independence_text(
         return Ok(text);
     }
     let forth = wait_text(alloc, second, first, forth)?;
-    let back = wait_text(alloc, first, second, back)?;
+    let back = back_text(alloc, first, second, back)?;
     let text = format!(in alloc; "{forth}{back}")?;
     Ok(text)
+}
+
+// How the first statement waits for the second, if that is another one and it does.
+fn back_text(alloc: Global, first: u32, second: u32, back: Wait) -> Result<String, AllocError>
+    ensures { IfOk result (λ text. string_bytes text ≡ spec_back_text first second back) }
+{
+    if first == second {
+        Ok(String::new(alloc))
+    } else {
+        wait_text(alloc, first, second, back)
+    }
 }
 
 // Whether neither of two statements waits for the other.
@@ -178,7 +189,9 @@ pub fn kind_word(kind: Kind) -> &'static str
 }
 
 /// Why nothing is told.
-pub fn fault_of(fault: DependenceFault) -> Fault {
+pub fn fault_of(fault: DependenceFault) -> Fault
+    ensures { result ≡ spec_fault_of fault }
+{
     match fault {
         DependenceFault::TooLarge => Fault::TooLong,
         DependenceFault::NoMemory => Fault::NoMemory,

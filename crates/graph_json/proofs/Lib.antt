@@ -1,1 +1,2 @@
+mod NodeLists
 mod Rows

@@ -2,13 +2,15 @@
 
 ghost use Rattle.std.specs.Prelude.{ℕ, List, [], OnOk};
 ghost use Rattle.std.specs.Fmt.{decimal};
-ghost use Rattle.graph_json.specs.Json.{edge_json, end_json, firing_json, flow_json, in_commas, numbers_json, or_null, piece_json, printed_json, region_json, rows, separated, trace_json};
+ghost use Rattle.graph_json.specs.Json.{edge_json, end_json, firing_json, flow_json, graph_json, in_commas, list_json, numbers_json, or_null, piece_json, printed_json, region_json, rows, separated, trace_json};
 ghost use Rattle.view_output.specs.Told.{Adds, told};
 
+use crate::json_graph::write_graph;
 use df_io::Sink;
 use printed_graphs::{
     Edge, Firing, Piece, Printed, PrintedFlow, PrintedTrace, Region, TraceEnd, kind_name, trap_name,
 };
+use std::alloc::Global;
 use view_output::{Fault, Output};
 
 /// A value that has a text in JSON.
@@ -68,8 +70,8 @@ pub fn write_numbers<K: Sink + Drop>(numbers: &[u32], output: &mut Output<K>) ->
     output.text("]")
 }
 
-// Appends a value, or `null` where there is none.
-fn write_or_null<T: Json, K: Sink + Drop>(
+/// Appends a value, or `null` where there is none.
+pub fn write_or_null<T: Json, K: Sink + Drop>(
     value: &Option<T>,
     output: &mut Output<K>,
 ) -> Result<(), Fault>
@@ -89,17 +91,57 @@ impl Json for u32 {
     }
 }
 
-impl Json for Printed {
-    ghost json_text = { printed_json };
+impl Json for Vec<u32> {
+    ghost json_text = { list_json };
 
     fn write<K: Sink + Drop>(&self, output: &mut Output<K>) -> Result<(), Fault> {
-        output.text("{\"format\":1,\"flow\":")?;
-        write_or_null(&self.flow, output)?;
-        output.text(",\n\"graph\":")?;
-        write_or_null(&self.graph, output)?;
-        output.text(",\n\"trace\":")?;
-        write_or_null(&self.trace, output)?;
-        output.text("}\n")
+        write_numbers(self.as_slice(), output)
+    }
+}
+
+/// Appends all that was printed of a program, with the round of each firing, where that is known.
+pub fn write_printed<K: Sink + Drop>(
+    alloc: Global,
+    printed: &Printed,
+    rounds: &Option<Vec<u32>>,
+    output: &mut Output<K>,
+) -> Result<(), Fault>
+    ensures { OnOk result (Adds (told K.got output.old) (told K.got output.new) (printed_json printed.now rounds.now)) }
+{
+    output.text("{\"format\":1,\"flow\":")?;
+    write_or_null(&printed.flow, output)?;
+    output.text(",\n\"graph\":")?;
+    write_graph_or_null(alloc, printed, output)?;
+    output.text(",\n\"trace\":")?;
+    write_trace_or_null(printed, rounds, output)?;
+    output.text("}\n")
+}
+
+// Appends the dataflow graph, or `null` where there is none.
+fn write_graph_or_null<K: Sink + Drop>(
+    alloc: Global,
+    printed: &Printed,
+    output: &mut Output<K>,
+) -> Result<(), Fault>
+    ensures { OnOk result (Adds (told K.got output.old) (told K.got output.new) (or_null (graph_json printed.now.flow) printed.now.graph)) }
+{
+    match &printed.graph {
+        Some(graph) => write_graph(alloc, &printed.flow, graph, output),
+        None => output.text("null"),
+    }
+}
+
+// Appends the trace, or `null` where there is none.
+fn write_trace_or_null<K: Sink + Drop>(
+    printed: &Printed,
+    rounds: &Option<Vec<u32>>,
+    output: &mut Output<K>,
+) -> Result<(), Fault>
+    ensures { OnOk result (Adds (told K.got output.old) (told K.got output.new) (or_null (trace_json rounds.now) printed.now.trace)) }
+{
+    match &printed.trace {
+        Some(trace) => write_trace(trace, rounds, output),
+        None => output.text("null"),
     }
 }
 
@@ -151,17 +193,21 @@ impl Json for Region {
     }
 }
 
-// The numbers of the nodes that fired, and why no more did.
-impl Json for PrintedTrace {
-    ghost json_text = { trace_json };
-
-    fn write<K: Sink + Drop>(&self, output: &mut Output<K>) -> Result<(), Fault> {
-        output.text("{\"firings\":[")?;
-        write_in_commas(self.firings.as_slice(), output)?;
-        output.text("],\n\"end\":")?;
-        self.end.write(output)?;
-        output.text("}")
-    }
+// Appends the numbers of the nodes that fired, their rounds, and why no more fired.
+fn write_trace<K: Sink + Drop>(
+    trace: &PrintedTrace,
+    rounds: &Option<Vec<u32>>,
+    output: &mut Output<K>,
+) -> Result<(), Fault>
+    ensures { OnOk result (Adds (told K.got output.old) (told K.got output.new) (trace_json rounds.now trace.now)) }
+{
+    output.text("{\"firings\":[")?;
+    write_in_commas(trace.firings.as_slice(), output)?;
+    output.text("],\n\"rounds\":")?;
+    write_or_null(rounds, output)?;
+    output.text(",\n\"end\":")?;
+    trace.end.write(output)?;
+    output.text("}")
 }
 
 impl Json for Firing {

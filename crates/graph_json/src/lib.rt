@@ -4,4 +4,4 @@
 mod json;
 mod json_graph;
 
-pub use json::Json;
+pub use json::write_printed;

@@ -1,5 +1,5 @@
 -- The report of a refusal.
-use Rattle.std.specs.Prelude.{◌≡◌, ◌⊎◌, ℕ, List, Option, None}
+use Rattle.std.specs.Prelude.{◌≡◌, ◌⊎◌, ◌++◌, ℕ, List, Option, None, codes}
 use Rattle.declared_names.specs.Described.{described}
 use Rattle.fixed_form.specs.Reading.{reading}
 use Rattle.f77_source.specs.declared.source_end.Code.{Code}
@@ -63,3 +63,7 @@ pub record IsReportOf (file text : List ℕ) (refusal : Refusal) (code_name repo
   pub at_column : place.column ≡ column_at refusal.code (line_of text refusal.line)
   pub cause_is : IsCauseOf (line_of text refusal.line) (parsed (raws_of (reading text))) refusal cause
   pub report_is : report ≡ written place (line_of text refusal.line) cause code_name
+
+-- the report of a text of more than 4,194,304 bytes
+abbrev pub too_long : (file : List ℕ) → List ℕ
+too_long file = file ++ codes ": error: the text has more than 4,194,304 bytes [TOOLONG]\n  Make it shorter.\n"

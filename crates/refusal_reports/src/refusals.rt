@@ -1,7 +1,7 @@
 //! The report of a refusal, from the text and the refusal.
 
-ghost use Rattle.std.specs.Prelude.{◌<◌, ◌+◌, ◌++◌, ◌≡◌, ◌^◌, length, IfOk, string_bytes};
-ghost use Rattle.refusal_reports.specs.Refusals.{IsReportOf, column_at as column_at_of, written as written_of};
+ghost use Rattle.std.specs.Prelude.{◌<◌, ◌+◌, ◌≡◌, ◌^◌, length, IfOk, string_bytes};
+ghost use Rattle.refusal_reports.specs.Refusals.{IsReportOf, column_at as column_at_of, too_long, written as written_of};
 
 use crate::causes::cause_of;
 use crate::columns::{column_of_byte, column_of_label};
@@ -92,12 +92,9 @@ fn column_at(code: Code, line: &[u8]) -> Option<u32>
 ///
 /// `NoMemory` where memory runs out.
 pub fn too_long_report(alloc: Global, file: &str) -> Result<String, NoMemory>
-    ensures { IfOk result (λ report. string_bytes report ≡ file.now ++ TOO_LONG.now) }
+    ensures { IfOk result (λ report. string_bytes report ≡ too_long file.now) }
 {
-    let words = TOO_LONG;
-    Ok(format!(in alloc; "{file}{words}")?)
+    Ok(format!(in alloc;
+        "{file}: error: the text has more than 4,194,304 bytes [TOOLONG]\n  Make it shorter.\n"
+    )?)
 }
-
-/// What is told of a text that is too long, behind the name of its file.
-const TOO_LONG: &str =
-    ": error: the text has more than 4,194,304 bytes [TOOLONG]\n  Make it shorter.\n";

@@ -1,3 +1,4 @@
+pub mod Help
 pub mod Numbers
 pub mod RunWords
 pub mod Words

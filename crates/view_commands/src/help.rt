@@ -1,5 +1,8 @@
 //! How the program and its commands are used.
 
+ghost use Rattle.std.specs.Prelude.{IsTrue};
+ghost use Rattle.view_commands.specs.Help.{is_help_of};
+
 use crate::commands::Command;
 
 /// What `--version` prints.
@@ -36,7 +39,9 @@ failed, 7 memory ran out, 8 the arguments can't be read.
 ";
 
 /// What `COMMAND --help` prints.
-pub fn help_of(command: Command) -> &'static str {
+pub fn help_of(command: Command) -> &'static str
+    ensures { IsTrue (is_help_of command result.now) }
+{
     match command {
         Command::Chart => CHART,
         Command::Rounds => ROUNDS,
