@@ -6,7 +6,7 @@
 PROGRAM is a built dfc. The texts are those of examples/, and of each FOLDER the files of less than 400 bytes without a dot in their names.
 Each text is cut at each byte, the whole one among them, and run under every job in both dialects, with limit=L (2,000) where the job has
 one. The rules are those of bench/hostile.py for a single run, and that all jobs refuse alike: where the whole text is accepted, a part of
-it whose last statement isn't END by NOEND at the line after the last. Then each whole text is run under every job
+it whose last statement isn't END by NOEND at the line after the last, unless it ends in a CR. Then each whole text is run under every job
 
 - with a standard input that is a folder, or is closed: status 5, and nothing is written;
 - with a standard output that is full, or is closed: status 6, or where nothing is due the status that is due;
@@ -52,7 +52,8 @@ def cut(runner, text, lists):
         answers = [(words, runner.run(words)) for words in lists]
         yield from ((size, words, broken(words, answer, lines)) for words, answer in answers)
         told = collections.Counter(refusal(answer) for words, answer in answers if words[0] not in REWRITERS)
-        due = (lines + 1, "NOEND") if is_accepted and not ends(part) else next(iter(told))
+        has_no_end = is_accepted and not ends(part) and not part.endswith(b"\r")
+        due = (lines + 1, "NOEND") if has_no_end else next(iter(told))
         yield size, ["all"], None if list(told) == [due] else f"refused so: {told}"
 
 

@@ -1,4 +1,4 @@
-/* dfc from C: the library libdfc_c.a, which `tools/c_library` builds. */
+/* dfc from C: the libraries libdfc.a and libdfc.so, which `tools/build` makes without a proof and `tools/c_library` with one. */
 #ifndef DFC_H
 #define DFC_H
 

@@ -1,5 +1,5 @@
 #!/usr/bin/env python3
-"""Fires a program through the shared library that tools/c_library builds: sum.py LIBRARY."""
+"""Fires a program through the shared library: sum.py build/libdfc.so."""
 import ctypes
 import sys
 
