@@ -1,0 +1,4 @@
+pub mod Heads
+pub mod Nodes
+pub mod Spellings
+pub mod Statements

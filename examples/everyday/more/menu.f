@@ -1,0 +1,16 @@
+      PROGRAM MENU
+      INTEGER CHOICE, STATE
+      STATE = 0
+   10 READ *, CHOICE
+      IF (CHOICE .EQ. 0) STOP
+      GO TO (100, 200, 300), CHOICE
+      PRINT *, 'UNKNOWN', CHOICE
+      GO TO 10
+  100 STATE = STATE + 1
+      GO TO 400
+  200 STATE = STATE*10
+      GO TO 400
+  300 STATE = -STATE
+  400 PRINT *, 'STATE', STATE
+      GO TO 10
+      END

@@ -1,0 +1,16 @@
+      PROGRAM DICE
+      INTEGER COUNT(6), I, K, RANDOM
+      DATA COUNT /6*0/
+      DO 10 I = 1, 600
+        K = MOD(RANDOM(), 6) + 1
+        COUNT(K) = COUNT(K) + 1
+   10 CONTINUE
+      PRINT *, COUNT
+      END
+      INTEGER FUNCTION RANDOM()
+      INTEGER SEED
+      SAVE SEED
+      DATA SEED /12345/
+      SEED = MOD(SEED*109 + 1021, 32768)
+      RANDOM = SEED/8
+      END

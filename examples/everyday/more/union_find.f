@@ -1,0 +1,34 @@
+      PROGRAM UNIONS
+      INTEGER N
+      PARAMETER (N = 8)
+      INTEGER PARENT(N), I, COUNT, ROOT
+      COMMON /SETS/ PARENT
+      DO 10 I = 1, N
+   10 PARENT(I) = I
+      CALL JOIN(1, 2)
+      CALL JOIN(3, 4)
+      CALL JOIN(2, 4)
+      CALL JOIN(5, 6)
+      COUNT = 0
+      DO 20 I = 1, N
+   20 IF (ROOT(I) .EQ. I) COUNT = COUNT + 1
+      PRINT *, COUNT, ROOT(1) .EQ. ROOT(3), ROOT(1) .EQ. ROOT(5)
+      END
+      INTEGER FUNCTION ROOT(I)
+      INTEGER N
+      PARAMETER (N = 8)
+      INTEGER PARENT(N), I
+      COMMON /SETS/ PARENT
+      ROOT = I
+   10 IF (PARENT(ROOT) .NE. ROOT) THEN
+        ROOT = PARENT(ROOT)
+        GO TO 10
+      END IF
+      END
+      SUBROUTINE JOIN(I, J)
+      INTEGER N, ROOT
+      PARAMETER (N = 8)
+      INTEGER PARENT(N), I, J
+      COMMON /SETS/ PARENT
+      PARENT(ROOT(I)) = ROOT(J)
+      END
