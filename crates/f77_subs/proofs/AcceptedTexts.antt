@@ -1,5 +1,5 @@
 -- What the refusals of a text leave for its list.
-use Rattle.std.proofs.Common.{◌≡◌, ◌≢◌, ℕ, ◌+◌, ◌<◌, ◌≤◌, Bool, true, false, not, List, [], ◌∷◌, length, sum_by, Option, Some, None, if◌then◌else◌, refl, sym, ap, subst, ◌∙◌, arith}
+use Rattle.std.proofs.Common.{◌≡◌, ◌≢◌, ℕ, ◌<◌, ◌≤◌, Bool, true, false, not, List, [], ◌∷◌, length, Option, Some, None, if◌then◌else◌, refl, sym, ap, subst, ◌∙◌, arith}
 use Rattle.std.specs.Prelude.{Result, Ok, Err, IfOk, IfErr, nat_lt}
 use Rattle.std.specs.List.{list_all, list_any, range_with_len}
 use Rattle.std.proofs.lemmas.Bool.{ltb-false}
@@ -9,13 +9,12 @@ use Rattle.layout_rules.specs.Faults.{first_answer, first_line}
 use Rattle.layout_rules.specs.Source.{EndsWithEnd}
 use Rattle.f77_subs.specs.declared.sub_end.SubEnd.{SubEnd}
 use Rattle.f77_subs.specs.declared.sub_end.SubEnd.TheVariants.{UnitOrder, BadCall, NoMemory, Recursion}
-use Rattle.f77_subs.specs.Expansion.{put_in, total_width, whole_list}
+use Rattle.f77_subs.specs.Expansion.{total_width, whole_list}
 use Rattle.f77_subs.specs.Heights.{NoneCallsItself}
 use Rattle.f77_subs.specs.NamedTables.{AreFit}
 use Rattle.f77_subs.specs.Refusals.{end_at, expansion, form_refusals, has_bad_call, has_great_name, is_out_of_unit, list_unless, recursion, size_refusals, unit_refusal}
 use Rattle.f77_subs.specs.Units.{call_in, in_first, is_end, is_sub_of, reaches, unit_at, unit_of, units}
 use Rattle.f77_subs.specs.UnitTables.{passes}
-use Rattle.f77_subs.specs.Widths.{body_width, width}
 use Rattle.f77_subs.proofs.AcceptedTables.{subs, main-dummies, fit}
 use Rattle.f77_subs.proofs.NoAnswer.{each-none, in-range, no-end, no-line, none-at}
 use Rattle.f77_subs.proofs.RefusalsMet.{form-told, size-told}
@@ -73,17 +72,11 @@ module _ (stmts : List Labelled) (checked : Bool) (ended : EndsWithEnd stmts) (u
 
 -- ---- no refusal of size
 
-narrow : (us : List (List Labelled)) (most : ℕ) → nat_lt most (total_width us) ≡ false → sum_by (width (body_width us (length us)) us 0) (unit_at us 0) ≤ most
-narrow us most none =
-    let own : ℕ = sum_by (width (body_width us (length us)) us 0) (unit_at us 0) in
-    let few : own + length (put_in us) ≤ most = ltb-false most (total_width us) none in
-    omega (arith, few)
-
 pub few-numbers : (us : List (List Labelled)) → first_answer (λ r. r) (size_refusals us) ≡ None → has_great_name us ≡ false
 few-numbers us accepted = none-great us (nat_lt 4000 (total_width us)) (has_great_name us) accepted
 
-pub few-statements : (us : List (List Labelled)) → first_answer (λ r. r) (size_refusals us) ≡ None → sum_by (width (body_width us (length us)) us 0) (unit_at us 0) ≤ 4000
-few-statements us accepted = narrow us 4000 (none-wide us (nat_lt 4000 (total_width us)) (has_great_name us) accepted)
+pub few-statements : (us : List (List Labelled)) → first_answer (λ r. r) (size_refusals us) ≡ None → total_width us ≤ 4000
+few-statements us accepted = ltb-false 4000 (total_width us) (none-wide us (nat_lt 4000 (total_width us)) (has_great_name us) accepted)
 
 -- ---- the answer
 

@@ -53,7 +53,7 @@ parts-same (CallTo a b) = refl
 parts-same Back = refl
 parts-same End = refl
 
-commons-same : (u : List Labelled) → all_commons (standing_in u) ≡ all_commons u
+pub commons-same : (u : List Labelled) → all_commons (standing_in u) ≡ all_commons u
 commons-same [] = refl
 commons-same (s ∷ u) =
     flat_map-cons (λ (a : Labelled). parts_of a.stmt) (record s { stmt = stand_in s.stmt }) (standing_in u)

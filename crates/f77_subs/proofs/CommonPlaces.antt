@@ -1,9 +1,9 @@
 -- Names of COMMON blocks, noted one by one.
-use Rattle.std.proofs.Common.{◌≡◌, ℕ, zero, suc, ◌+◌, ◌<◌, ◌==◌, Bool, true, false, not, ◌&&◌, ◌||◌, cond, List, [], ◌∷◌, ◌++◌, length, get_or, take, map, flat_map, filter, Option, Some, None, if◌then◌else◌, ⊎_elim, refl, sym, ap, subst, ◌∙◌, arith, length-append}
+use Rattle.std.proofs.Common.{◌≡◌, ℕ, zero, suc, ◌+◌, ◌*◌, ◌^◌, ◌<◌, ◌≤◌, ◌==◌, Bool, true, false, not, ◌&&◌, ◌||◌, cond, List, [], ◌∷◌, ◌++◌, length, get_or, take, map, flat_map, filter, Option, Some, None, if◌then◌else◌, ⊎_elim, refl, sym, ap, subst, ◌∙◌, arith, length-append}
 use Rattle.std.specs.Prelude.{bytes_eq}
 use Rattle.std.specs.List.{list_any, position_or_len, slice_get}
 use Rattle.std.proofs.lemmas.Bool.{cases_Bool, eqb-true, eq-eqb, ne_eqb}
-use Rattle.std.proofs.lemmas.List.{append_assoc, append-nil, map-append, take_more}
+use Rattle.std.proofs.lemmas.List.{append_assoc, append-nil, length-map, length-take-le, map-append, take_more}
 use Rattle.std.proofs.lemmas.List.Concat.{flat_map-cons}
 use Rattle.f77_tree.specs.declared.declarations.CommonPart.{CommonPart}
 use Rattle.f77_tree.specs.declared.declarations.Decl.{Decl}
@@ -18,7 +18,7 @@ use Rattle.symbol_table.proofs.NameEntries.{bytes_eq-sym}
 use Rattle.f77_subs.specs.declared.unit_blocks.UnitBlocks.{UnitBlocks}
 use Rattle.f77_subs.specs.Entities.{Entity, InBlock, block_list}
 use Rattle.f77_subs.specs.Names.{same_entity}
-use Rattle.f77_subs.specs.UnitBlocks.{AreBlocksOf, AreKept, InCommon, block_if, declared_by, entity_in, in_block, in_commons, in_part, or_zero, place_in_block}
+use Rattle.f77_subs.specs.UnitBlocks.{AreBlocksOf, AreKept, HasRoomFor, InCommon, block_if, declared_by, entity_in, in_block, in_commons, in_part, or_zero, place_in_block}
 use Rattle.f77_subs.proofs.MainNames.{same_block-itself}
 use Rattle.f77_subs.proofs.OwnNames.{blocks-same}
 
@@ -78,6 +78,14 @@ in_block-push : (common : List InCommon) (c : InCommon) (block : Option (List �
 in_block-push common c block b is =
     in_block-append common (c ∷ []) block
     ∙ ap (λ (names : List (List ℕ)). in_block common block ++ names) (in_block-one c block ∙ ap (λ (x : Bool). cond x (c.name ∷ []) []) is)
+
+in_block-few : (common : List InCommon) (block : Option (List ℕ)) → length (in_block common block) ≤ length common
+in_block-few [] block = omega arith
+in_block-few (c ∷ common) block = by_test (same_block c.block block) (in_block-few common block)
+  where
+    by_test : (b : Bool) → length (in_block common block) ≤ length common → length (map (λ (x : InCommon). x.name) (cond b (c ∷ filter (λ (x : InCommon). same_block x.block block) common) (filter (λ (x : InCommon). same_block x.block block) common))) ≤ suc (length common)
+    by_test true few = omega (arith, few)
+    by_test false few = omega (arith, few)
 
 -- ---- where a name stands
 
@@ -258,3 +266,33 @@ part-more block decls i decl common inside stands =
 
 pub commons-more : (parts : List CommonPart) (i : ℕ) (part : CommonPart) → i < length parts → part ≡ get_or parts i part → in_commons (take i parts) ++ in_part part ≡ in_commons (take (i + 1) parts)
 commons-more parts i part inside stands = sym (flat_map_taken in_part parts i part inside stands)
+
+-- ---- room for more names
+
+pub place-small : (kept : UnitBlocks) (block : Option (List ℕ)) → HasRoomFor 1 kept → or_zero (get same_block kept.sizes block) + 1 < 2 ^ 64
+place-small kept block room = let size = room.are.sizes block in let few = in_block-few room.common block in let most = room.few in omega (arith, size, few, most)
+
+pub room-for-one : (block : Option (List ℕ)) (decls : List Decl) (i : ℕ) (old kept : UnitBlocks) (room : HasRoomFor (length decls) old) → i < length decls → AreKept (room.common ++ declared_by block (take i decls)) kept → HasRoomFor 1 kept
+room-for-one block decls i old kept room inside are = record {
+  common = room.common ++ declared_by block (take i decls);
+  are = are;
+  few = let sum = length-append room.common (declared_by block (take i decls)) in
+      let noted = length-map {B = InCommon} (take i decls) (λ (decl : Decl). record { block = block; name = decl.name }) in
+      let some = length-take-le i decls (omega (arith, inside)) in
+      let most = room.few in
+      omega (arith, sum, noted, some, most, inside);
+}
+
+pub room-for-part : (parts : List CommonPart) (i n : ℕ) (old kept : UnitBlocks) (room : HasRoomFor (2 ^ 32 * length parts) old) → i < length parts → n < 2 ^ 32 → length (in_commons (take i parts)) ≤ 2 ^ 32 * i → AreKept (room.common ++ in_commons (take i parts)) kept → HasRoomFor n kept
+room-for-part parts i n old kept room inside small few are = record {
+  common = room.common ++ in_commons (take i parts);
+  are = are;
+  few = let sum = length-append room.common (in_commons (take i parts)) in let most = room.few in omega (arith, sum, few, most, inside, small);
+}
+
+pub few-more : (parts : List CommonPart) (i : ℕ) (part : CommonPart) → i < length parts → part ≡ get_or parts i part → length part.decls < 2 ^ 32 → length (in_commons (take i parts)) ≤ 2 ^ 32 * i → length (in_commons (take (i + 1) parts)) ≤ 2 ^ 32 * (i + 1)
+few-more parts i part inside stands small few =
+    let more = ap length (commons-more parts i part inside stands) in
+    let sum = length-append (in_commons (take i parts)) (in_part part) in
+    let noted = length-map {B = InCommon} part.decls (λ (decl : Decl). record { block = part.block; name = decl.name }) in
+    omega (arith, more, sum, noted, small, few)

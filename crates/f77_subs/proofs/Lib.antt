@@ -50,6 +50,7 @@ pub mod KeptBlocks
 pub mod UnitsMet
 mod OddBlocks
 mod FewCalls
+mod FewPlaces
 mod GreatNumbers
 mod RefusedUnits
 pub mod ShortNames

@@ -1,27 +1,31 @@
 -- The whole list by tables.
-use Rattle.std.proofs.Common.{◌≡◌, ℕ, zero, suc, ◌+◌, ◌-◌, ◌^◌, ◌<◌, ◌≤◌, ◌==◌, Bool, true, false, not, cond, if◌then◌else◌, min, nat_lt, List, [], ◌∷◌, ◌++◌, length, take, drop, sum_by, Contains, Option, Some, None, ⊎_elim, refl, sym, ap, subst, ◌∙◌, arith}
+use Rattle.std.proofs.Common.{◌≡◌, ℕ, zero, suc, ◌+◌, ◌-◌, ◌^◌, ◌<◌, ◌≤◌, ◌==◌, Bool, true, false, not, cond, if◌then◌else◌, min, nat_lt, List, [], ◌∷◌, ◌++◌, length, get_or, take, drop, sum_by, Contains, Option, Some, None, ⊎_elim, refl, sym, ap, subst, ◌∙◌, arith}
 use Rattle.std.specs.List.{list_all, position_or_len, slice_get}
 use Rattle.std.proofs.lemmas.Bool.{cases_Bool, and_parts, ltb-true, ltb-false}
 use Rattle.std.proofs.lemmas.List.{length-drop, take-append-drop, take_all}
 use Rattle.std.proofs.lemmas.List.Elements.{Contains-append_left, Contains-append_right}
 use Rattle.std.proofs.lemmas.List.Sums.{sum_by-cons, sum_by-take-drop}
 use Rattle.std.proofs.lemmas.Grind.{flat_map-append}
+use Rattle.std.proofs.lemmas.Option.{slice_get-get_or}
 use native.Mathlib.Nat.{min-eq_left, min-eq_right}
 use Rattle.f77_tree.specs.declared.statements.Labelled.{Labelled}
 use Rattle.f77_tree.specs.declared.statements.RawExpr.{RawExpr}
 use Rattle.layout_rules.specs.Declarations.{is_array}
+use Rattle.f77_subs.specs.declared.unit_table.CopyTables.{CopyTables}
 use Rattle.f77_subs.specs.declared.unit_table.UnitTable.{UnitTable}
 use Rattle.f77_subs.specs.Changes.{change_by}
-use Rattle.f77_subs.specs.Expansion.{declared_first, main_pieces, put_in, whole_list}
+use Rattle.f77_subs.specs.Expansion.{declared_first, main_pieces, put_in, total_width, whole_list}
 use Rattle.f77_subs.specs.Heights.{NoneCallsItself, calls_below, height}
 use Rattle.f77_subs.specs.LabelCounts.{count_at, labels_of}
 use Rattle.f77_subs.specs.Names.{appearing_here}
-use Rattle.f77_subs.specs.NamedTables.{AreFit}
+use Rattle.f77_subs.specs.NamedTables.{AreFit, AreTablesFor}
 use Rattle.f77_subs.specs.PutCopies.{put_copy, put_pieces}
 use Rattle.f77_subs.specs.Units.{Call, call_in, guard_of, unit_at, unit_of}
 use Rattle.f77_subs.specs.UnitTables.{MakeCopies, appearing_in, passes}
 use Rattle.f77_subs.specs.Widths.{body_labels, body_width, is_kept, labels, labels_before, labels_by, width, width_by}
+use Rattle.f77_subs.proofs.AcceptedTexts.{some-first}
 use Rattle.f77_subs.proofs.CopiesByTables.{all-same, main-same}
+use Rattle.f77_subs.proofs.CopyWidths.{whole_length}
 use Rattle.f77_subs.proofs.Settled.{labels_settle}
 use Rattle.f77_subs.proofs.SettledCopies.{pass_take}
 use Rattle.f77_subs.proofs.UnitHeights.{are-heights, heights-few}
@@ -69,8 +73,11 @@ stops-at p (y ∷ ys) (suc i) x before there is = by_test (p y) before (λ (less
         let later = more (omega (arith, e)) in
         omega (arith, later)
 
-pub small-enough : (n : ℕ) → n ≤ 4000 → n < 2 ^ 20
-small-enough n few = omega (arith, few)
+pub small-enough : (us : List (List Labelled)) → total_width us ≤ 4000 → sum_by (width (body_width us (length us)) us 0) (unit_at us 0) < 2 ^ 20
+small-enough us few = omega (arith, few)
+
+pub few-whole : (us : List (List Labelled)) (list : List Labelled) → total_width us ≤ 4000 → list ≡ whole_list us → length list ≤ 4000
+few-whole us list few is = let long = whole_length us in omega (arith, few, ap length is, long)
 
 -- ---- at most as many labels as statements
 
@@ -179,3 +186,27 @@ module _ (us : List (List Labelled)) (limit : ℕ) (counts : List ℕ) (tables :
       (one ∙ ap (λ (v : List Labelled). start ++ put-deep d 0 (take p v)) same ∙ ap (λ (depth : ℕ). start ++ put-deep depth 0 (take p main)) deep ∙ ap (λ (xs : List Labelled). xs ++ put 0 (take p main)) none)
       two
       (three ∙ ap (λ (v : List Labelled). second ++ put-deep e before v) (rest-of u same p) ∙ ap (λ (depth : ℕ). second ++ put-deep depth before (drop p main)) deeper)
+
+-- by tables that are made
+module _ (copies : CopyTables) (told : AreTablesFor copies) (few : total_width copies.units.us.now ≤ 4000) (or : UnitTable) where
+  abbrev text : List (List Labelled)
+  text = copies.units.us.now
+
+  abbrev first : UnitTable
+  first = get_or copies.tables.now 0 or
+
+  there : slice_get copies.tables.now 0 ≡ Some first
+  there = let many = told.made.as_many in let some = some-first text (told.fit.subs []) in slice_get-get_or copies.tables.now 0 or (omega (arith, many, some))
+
+  pub main-front : (u : List Labelled) → u ≡ unit_at text 0 → (p : ℕ) → labels_of text copies.units.counts.now 0 (take p u) < 2 ^ 20
+  main-front = front-fits text (2 ^ 20) copies.units.counts.now copies.tables.now told.none told.fit told.made first there (small-enough text few)
+
+  pub main-back : (u : List Labelled) → u ≡ unit_at text 0 → (p before : ℕ) → before ≡ labels_of text copies.units.counts.now 0 (take p u) → before + labels_of text copies.units.counts.now 0 (take (length u - p) (drop p u)) < 2 ^ 20
+  main-back = back-fits text (2 ^ 20) copies.units.counts.now copies.tables.now told.none told.fit told.made first there (small-enough text few)
+
+  abbrev main-put : (depth before : ℕ) → List Labelled → List Labelled
+  main-put depth before stmts = put_pieces text copies.units.counts.now (put_copy text copies.units.counts.now copies.tables.now depth) 0 (change_by first [] 0) before stmts
+
+  pub main-whole : (u : List Labelled) → u ≡ unit_at text 0 → (d e p before : ℕ) (start first second third : List Labelled) → d ≡ length text → e ≡ length text → p ≡ declared_first u → before ≡ labels_of text copies.units.counts.now 0 (take p u)
+      → start ≡ [] → first ≡ start ++ main-put d 0 (take p u) → second ≡ first ++ put_in text → third ≡ second ++ main-put e before (take (length u - p) (drop p u)) → third ≡ whole_list text
+  main-whole = whole-is text (2 ^ 20) copies.units.counts.now copies.tables.now told.none told.fit told.made first there (small-enough text few)

@@ -1,12 +1,13 @@
 -- What is kept of the COMMON blocks of units.
-use Rattle.std.specs.Prelude.{◌≡◌, ◌+◌, ℕ, Bool, not, if◌then◌else◌, List, map, flat_map, filter, length, Option, Some, None, bytes_eq, slice_get}
+use Rattle.std.specs.Prelude.{◌≡◌, ◌+◌, ◌++◌, ℕ, Bool, not, if◌then◌else◌, unwrap_or, List, [], map, flat_map, filter, length, Option, Some, None, Vec, option_map, bytes_eq, slice_get}
 use Rattle.std.specs.List.{list_any, position_or_len}
-use Rattle.indexmap.specs.IndexMap.{get}
+use Rattle.indexmap.specs.IndexMap.{IndexMap, get}
 use Rattle.f77_tree.specs.declared.declarations.CommonPart.{CommonPart}
 use Rattle.f77_tree.specs.declared.declarations.Decl.{Decl}
 use Rattle.f77_tree.specs.declared.statements.Labelled.{Labelled}
 use Rattle.f77_tree.specs.Places.{same_block}
 use Rattle.layout_rules.specs.Declarations.{all_commons}
+use Rattle.layout_rules.specs.Faults.{answer_or}
 use Rattle.declared_names.specs.Described.{described}
 use Rattle.declared_names.specs.KeptDeclarations.{said_by}
 use Rattle.f77_subs.specs.declared.block_names.BlockNames.{BlockNames}
@@ -26,10 +27,22 @@ names_if here names = if here then Some names else None
 abbrev pub decl_names : List Decl → List (List ℕ)
 decl_names decls = map (λ decl. decl.name) decls
 
+-- the names that are kept under that of a block
+abbrev pub names_under : {A S : Type 0} → IndexMap (List ℕ) (Vec (List ℕ) A) S → List ℕ → Option (List (List ℕ))
+names_under {A} named name = option_map (λ (names : Vec (List ℕ) A). names.items) (get bytes_eq named name)
+
 -- the names that are kept of a block, where it is there
 abbrev pub found_names : BlockNames → Option (List ℕ) → Option (List (List ℕ))
-found_names kept None = names_if kept.has_blank kept.blank
-found_names kept (Some name) = get bytes_eq kept.named name
+found_names kept None = names_if kept.has_blank kept.blank.items
+found_names kept (Some name) = names_under kept.named name
+
+-- those of a block with those of more declarators, where these are the block's
+abbrev pub more_if : Bool → Option (List (List ℕ)) → List Decl → Option (List (List ℕ))
+more_if own names decls = if own then Some (unwrap_or names [] ++ decl_names decls) else names
+
+-- the names of one part more are kept
+abbrev pub HasMore : BlockNames → CommonPart → BlockNames → Type 0
+HasMore old part new = (block : Option (List ℕ)) → found_names new block ≡ more_if (same_block part.block block) (found_names old block) part.decls
 
 -- one of the parts is of the block
 abbrev pub has_part : List CommonPart → Option (List ℕ) → Bool
@@ -58,6 +71,10 @@ pub record AreBlockTables (us : List (List Labelled)) (tables : List BlockTable)
 abbrev pub owner_in : BlockOwners → Option (List ℕ) → Option ℕ
 owner_in owners None = owners.blank
 owner_in owners (Some name) = get bytes_eq owners.named name
+
+-- for each block the unit stays that was kept; where there was none, it is the one that is told
+abbrev pub OwnsMore : (old new : BlockOwners) → (told : Option (List ℕ) → Option ℕ) → Type 0
+OwnsMore old new told = (block : Option (List ℕ)) → owner_in new block ≡ answer_or (owner_in old block) (told block)
 
 -- the first unit that has the block
 abbrev pub block_owner : List (List Labelled) → Option (List ℕ) → Option ℕ

@@ -61,8 +61,12 @@ block_size us block = sizes (filter (λ u. has_block u block) us)
 abbrev pub common_decl : List (List Labelled) → Option (List ℕ) → (place : ℕ) → Decl
 common_decl us block place = record { name = name_for us (InBlock block place); dims = [] }
 
+-- declarators of the names of a block, as many as it has places
+abbrev pub common_decls : List (List Labelled) → Option (List ℕ) → List Decl
+common_decls us block = map (common_decl us block) (range_with_len 0 (block_size us block))
+
 abbrev pub common_of : List (List Labelled) → (line : ℕ) → Option (List ℕ) → Labelled
-common_of us line block = bare 0 line (Common (record { block = block; decls = map (common_decl us block) (range_with_len 0 (block_size us block)) } ∷ []))
+common_of us line block = bare 0 line (Common (record { block = block; decls = common_decls us block } ∷ []))
 
 abbrev pub member_for : List (List Labelled) → ℕ → Member → Member
 member_for us k m = record m { name = name_for us (entity_of us k m.name) }

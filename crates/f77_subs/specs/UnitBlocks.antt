@@ -1,5 +1,5 @@
 -- The names of a unit's COMMON blocks, one after another, and what is kept of them.
-use Rattle.std.specs.Prelude.{◌≡◌, ℕ, if◌then◌else◌, List, map, flat_map, filter, length, Option, Some, None, bytes_eq, slice_get}
+use Rattle.std.specs.Prelude.{◌≡◌, ℕ, ◌+◌, ◌^◌, ◌<◌, Bool, if◌then◌else◌, List, map, flat_map, filter, length, Option, Some, None, bytes_eq, slice_get}
 use Rattle.std.specs.List.{position_or_len}
 use Rattle.indexmap.specs.IndexMap.{get}
 use Rattle.f77_tree.specs.declared.declarations.CommonPart.{CommonPart}
@@ -42,15 +42,28 @@ place_in_block common x (Some block) = Some (InBlock block (position_or_len (byt
 abbrev pub entity_in : List InCommon → List ℕ → Option Entity
 entity_in common x = place_in_block common x (first_answer (block_if x) common)
 
+abbrev pub place_if : Option (List ℕ) → (place : ℕ) → Bool → Option Entity
+place_if block place own = if own then Some (InBlock block place) else None
+
 abbrev pub or_zero : Option ℕ → ℕ
 or_zero None = 0
 or_zero (Some n) = n
+
+-- in the new map the keys that equal this one have the value, and the others theirs in the old one
+abbrev pub Sets : {K V : Type 0} → (eq : K → K → Bool) → (key : K) → (value : V) → (old new : K → Option V) → Type 0
+Sets {K} eq key value old new = (x : K) → new x ≡ (if eq key x then Some value else old x)
 
 -- these names are kept
 pub record AreKept (common : List InCommon) (kept : UnitBlocks) : Type 0 where
   pub sizes : (block : Option (List ℕ)) → or_zero (get same_block kept.sizes block) ≡ length (in_block common block)
   pub entities : (x : List ℕ) → get bytes_eq kept.entities x ≡ entity_in common x
   pub names : (block : Option (List ℕ)) (place : ℕ) → get same_entity kept.names (InBlock block place) ≡ slice_get (in_block common block) place
+
+-- So few names are kept that n more have places of 64 bits.
+pub record HasRoomFor (n : ℕ) (kept : UnitBlocks) : Type 0 where
+  pub common : List InCommon
+  pub are : AreKept common kept
+  pub few : length common + n < 2 ^ 64
 
 -- all names of the blocks of a unit are kept
 pub record AreBlocksOf (unit : List Labelled) (kept : UnitBlocks) : Type 0 where

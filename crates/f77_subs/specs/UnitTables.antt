@@ -1,6 +1,6 @@
 -- When the tables of a unit are right.
 use Rattle.std.specs.Prelude.{◌≡◌, ℕ, suc, ◌+◌, ◌<◌, ◌==◌, Bool, true, not, nat_eq, nat_lt, if◌then◌else◌, List, flat_map, take, length, min, Contains, Option, Some, None, bytes_eq, slice_get}
-use Rattle.std.specs.List.{list_all, position_or_len}
+use Rattle.std.specs.List.{list_all, list_any, position_or_len}
 use Rattle.indexmap.specs.IndexMap.{get}
 use Rattle.f77_tree.specs.declared.statements.Labelled.{Labelled}
 use Rattle.layout_rules.specs.Declarations.{is_array}
@@ -12,7 +12,7 @@ use Rattle.f77_subs.specs.declared.unit_table.NewName.TheVariants.{Argument, Fix
 use Rattle.f77_subs.specs.declared.unit_table.UnitTable.{UnitTable}
 use Rattle.f77_subs.specs.Units.{Call, call_in, dummies_of, unit_at, unit_of}
 use Rattle.f77_subs.specs.Entities.{entity_of}
-use Rattle.f77_subs.specs.Names.{appearing_here, name_for}
+use Rattle.f77_subs.specs.Names.{appearing_here, name_for, names_of_unit}
 use Rattle.f77_subs.specs.Widths.{body_labels}
 use Rattle.f77_subs.specs.Copies.{call_at}
 use Rattle.f77_subs.specs.Changes.{first_or, last_or}
@@ -25,6 +25,10 @@ appearing_in u stmts = flat_map (λ s. appearing_here (is_array u) s.stmt) stmts
 -- a dummy becomes its argument, and another name always the same
 abbrev pub new_name : List (List Labelled) → (k : ℕ) → List ℕ → NewName
 new_name us k x = if nat_lt (position_or_len (bytes_eq x) (dummies_of (unit_at us k))) (length (dummies_of (unit_at us k))) then Argument (position_or_len (bytes_eq x) (dummies_of (unit_at us k))) else Fixed (name_for us (entity_of us k x))
+
+-- each name of the unit k has what it becomes
+abbrev pub AreNewNames : List (List Labelled) → (k : ℕ) → (new : List ℕ → Option NewName) → Type 0
+AreNewNames us k new = (x : List ℕ) → list_any (bytes_eq x) (names_of_unit (unit_at us k)) ≡ true → new x ≡ Some (new_name us k x)
 
 -- how many labels more stand at the end of a copy, if the statement is a CALL
 abbrev pub labels_behind : List (List Labelled) → (counts : List ℕ) → Option Call → ℕ

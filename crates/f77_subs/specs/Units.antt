@@ -62,8 +62,11 @@ pub record Call : Type 0 where
   pub name : List ℕ
   pub arguments : List (List ℕ)
 
+abbrev pub call_to : List ℕ → List (List ℕ) → Call
+call_to name arguments = record { name = name; arguments = arguments }
+
 abbrev pub call_by : Stmt → Option Call
-call_by (CallTo name arguments) = Some (record { name = name; arguments = arguments })
+call_by (CallTo name arguments) = Some (call_to name arguments)
 call_by _ = None
 
 -- the CALL in a statement, alone or after a condition

@@ -3,12 +3,12 @@ ghost use Rattle.std.specs.Prelude.{◌≡◌, ◌++◌, ◌∷◌, [], ℕ, Lis
 ghost use Rattle.std.specs.Option.{is_none};
 ghost use Rattle.indexmap.specs.IndexMap.{get};
 ghost use Rattle.f77_tree.specs.Places.{same_block};
-ghost use Rattle.f77_subs.specs.BlockTables.{AreNoted, IsTableOfBlocks, decl_names, found_names};
+ghost use Rattle.f77_subs.specs.BlockTables.{AreNoted, HasMore, IsTableOfBlocks, decl_names, found_names, more_if, names_under};
 
 use declared_names::NameDeclarations;
-use df_sequence::{Copied, NoMemory, Sequence};
+use df_sequence::{Copied, NoMemory};
 use f77_layout::commons_of;
-use f77_tree::{CommonPart, Decl, Labelled, Name, NameList};
+use f77_tree::{CommonPart, Decl, Labelled, Name};
 use indexmap::IndexMap;
 use std::alloc::Global;
 
@@ -17,8 +17,8 @@ use std::alloc::Global;
 pub(crate) struct BlockNames {
     has_blank: bool,
     /// The names of blank common.
-    blank: NameList,
-    named: IndexMap<Name, NameList>,
+    blank: Vec<Name>,
+    named: IndexMap<Name, Vec<Name>>,
 }
 
 impl BlockNames {
@@ -28,7 +28,7 @@ impl BlockNames {
     {
         BlockNames {
             has_blank: false,
-            blank: Sequence::new(alloc),
+            blank: Vec::new(alloc),
             named: IndexMap::new(alloc),
         }
     }
@@ -65,7 +65,7 @@ impl BlockNames {
     // Puts the names of a part behind those of its block, and tells whether the block is new.
     fn add(&mut self, alloc: Global, part: &CommonPart) -> Result<bool, NoMemory>
         ensures is_new { IfOk result (λ is_new. is_new ≡ is_none (found_names self.old part.now.block)) }
-        ensures names { OnOk result ((block : Option (List ℕ)) → found_names self.new block ≡ (if same_block part.now.block block then Some (unwrap_or (found_names self.old block) [] ++ decl_names part.now.decls) else found_names self.old block)) }
+        ensures names { OnOk result (HasMore self.old part.now self.new) }
     {
         match &part.block {
             None => self.add_blank(alloc, part.decls.as_slice()),
@@ -92,12 +92,12 @@ impl BlockNames {
 // Puts names behind those of a block, and tells whether it is new.
 fn add_named(
     alloc: Global,
-    named: &mut IndexMap<Name, NameList>,
+    named: &mut IndexMap<Name, Vec<Name>>,
     name: &Name,
     decls: &[Decl],
 ) -> Result<bool, NoMemory>
     ensures is_new { IfOk result (λ is_new. is_new ≡ is_none (get bytes_eq named.old name.now)) }
-    ensures names { OnOk result ((other : List ℕ) → get bytes_eq named.new other ≡ (if bytes_eq name.now other then Some (unwrap_or (get bytes_eq named.old other) [] ++ decl_names decls.now) else get bytes_eq named.old other)) }
+    ensures names { OnOk result ((x : List ℕ) → names_under named.new x ≡ more_if (bytes_eq name.now x) (names_under named.old x) decls.now) }
 {
     match named.get_mut(name) {
         Some(names) => {
@@ -112,22 +112,19 @@ fn add_named(
 }
 
 // The names of declarators.
-fn names_of(alloc: Global, decls: &[Decl]) -> Result<NameList, NoMemory>
-    ensures { IfOk result (λ names. names ≡ decl_names decls.now) }
+fn names_of(alloc: Global, decls: &[Decl]) -> Result<Vec<Name>, NoMemory>
+    ensures { IfOk result (λ names. names.items ≡ decl_names decls.now) }
 {
-    let mut names = Sequence::new(alloc);
+    let mut names = Vec::new(alloc);
     add_names(alloc, &mut names, decls)?;
     Ok(names)
 }
 
-// Adds the names of declarators. A list that is full has no memory for more.
-fn add_names(alloc: Global, names: &mut NameList, decls: &[Decl]) -> Result<(), NoMemory>
-    ensures { OnOk result (names.new ≡ names.old ++ decl_names decls.now) }
+// Adds the names of declarators.
+fn add_names(alloc: Global, names: &mut Vec<Name>, decls: &[Decl]) -> Result<(), NoMemory>
+    ensures { OnOk result (names.new.items ≡ names.old.items ++ decl_names decls.now) }
 {
     for decl in decls {
-        if names.len() == u32::MAX {
-            return Err(NoMemory);
-        }
         names.push(decl.name.copy(alloc)?)?;
     }
     Ok(())
@@ -183,7 +180,7 @@ fn note_part(
     blocks: &mut Vec<Option<Name>>,
     part: &CommonPart,
 ) -> Result<(), NoMemory>
-    ensures names { OnOk result ((block : Option (List ℕ)) → found_names names.new block ≡ (if same_block part.now.block block then Some (unwrap_or (found_names names.old block) [] ++ decl_names part.now.decls) else found_names names.old block)) }
+    ensures names { OnOk result (HasMore names.old part.now names.new) }
     ensures blocks { OnOk result (blocks.new.items ≡ blocks.old.items ++ (if is_none (found_names names.old part.now.block) then part.now.block ∷ [] else [])) }
 {
     let is_new = names.add(alloc, part)?;

@@ -5,7 +5,7 @@ ghost use Rattle.f77_tree.specs.Places.{same_block};
 ghost use Rattle.layout_rules.specs.Faults.{answer_or};
 ghost use Rattle.f77_subs.specs.Names.{has_block};
 ghost use Rattle.f77_subs.specs.CallTable.{unit_if};
-ghost use Rattle.f77_subs.specs.BlockTables.{AreBlockTables, AreOwners, owner_in};
+ghost use Rattle.f77_subs.specs.BlockTables.{AreBlockTables, AreOwners, OwnsMore, owner_in};
 
 use crate::block_names::BlockTable;
 use crate::splitting::Units;
@@ -45,7 +45,7 @@ impl BlockOwners {
 
     // Notes the unit k for a block, unless one was noted before.
     fn note(&mut self, alloc: Global, block: &Option<Name>, k: usize) -> Result<(), NoMemory>
-        ensures { OnOk result ((other : Option (List ℕ)) → owner_in self.new other ≡ answer_or (owner_in self.old other) (unit_if (same_block block.now other) k)) }
+        ensures { OnOk result (OwnsMore self.old self.new (λ b. unit_if (same_block block.now b) k)) }
     {
         match block {
             None => {
@@ -67,7 +67,7 @@ impl BlockOwners {
 
     // Notes the unit k for these blocks, each unless one was noted before.
     fn note_all(&mut self, alloc: Global, blocks: &[Option<Name>], k: usize) -> Result<(), NoMemory>
-        ensures { OnOk result ((other : Option (List ℕ)) → owner_in self.new other ≡ answer_or (owner_in self.old other) (unit_if (list_any (λ b. same_block b other) blocks.now) k)) }
+        ensures { OnOk result (OwnsMore self.old self.new (λ b. unit_if (list_any (λ c. same_block c b) blocks.now) k)) }
     {
         for block in blocks {
             self.note(alloc, block, k)?;

@@ -1,6 +1,6 @@
 //! Copies of units in place of CALLs.
 ghost use Rattle.std.specs.Prelude.{◌≡◌, ◌+◌, ◌<◌, ◌^◌, ◌++◌, ◌∷◌, ◌==◌, [], if◌then◌else◌, OnOk};
-ghost use Rattle.f77_subs.specs.Units.{guard_of, unit_of as unit_of_name};
+ghost use Rattle.f77_subs.specs.Units.{call_to, guard_of, unit_of as unit_of_name};
 ghost use Rattle.f77_subs.specs.Widths.{labels};
 ghost use Rattle.f77_subs.specs.Copies.{bare};
 ghost use Rattle.f77_subs.specs.Changes.{changes_of};
@@ -12,7 +12,7 @@ use crate::changed_stmts::changed_stmt;
 use crate::sub_names::inner_of;
 use crate::unit_table::{CopyOf, CopyTables};
 use df_sequence::NoMemory;
-use f77_tree::{Labelled, LabelledList, Name, NameList, Stmt};
+use f77_tree::{Labelled, Name, NameList, Stmt};
 use std::alloc::Global;
 
 impl<'a> CopyTables<'a> {
@@ -22,14 +22,14 @@ impl<'a> CopyTables<'a> {
     fn put_copy(
         &self,
         alloc: Global,
-        out: &mut LabelledList,
+        out: &mut Vec<Labelled>,
         depth: usize,
         k: usize,
         arguments: &[Name],
         base: u32,
     ) -> Result<(), NoMemory>
         requires { base + count_of self.now k < 2 ^ 20 }
-        ensures { OnOk result (out.new ≡ out.old ++ copies_of self.now depth k arguments.now base) }
+        ensures { OnOk result (out.new.items ≡ out.old.items ++ copies_of self.now depth k arguments.now base) }
     {
         if depth == 0 {
             return Ok(());
@@ -50,7 +50,7 @@ impl<'a> CopyTables<'a> {
     pub(crate) fn put_pieces(
         &self,
         alloc: Global,
-        out: &mut LabelledList,
+        out: &mut Vec<Labelled>,
         depth: usize,
         k: usize,
         copy: &CopyOf,
@@ -58,7 +58,7 @@ impl<'a> CopyTables<'a> {
         stmts: &[Labelled],
     ) -> Result<(), NoMemory>
         requires { before + labels_in self.now k stmts.now < 2 ^ 20 }
-        ensures { OnOk result (out.new ≡ out.old ++ pieces_of self.now depth k (changes_of copy.now) before stmts.now) }
+        ensures { OnOk result (out.new.items ≡ out.old.items ++ pieces_of self.now depth k (changes_of copy.now) before stmts.now) }
     {
         let mut stood = before;
         for s in stmts {
@@ -73,7 +73,7 @@ impl<'a> CopyTables<'a> {
     fn put_piece(
         &self,
         alloc: Global,
-        out: &mut LabelledList,
+        out: &mut Vec<Labelled>,
         depth: usize,
         k: usize,
         copy: &CopyOf,
@@ -81,7 +81,7 @@ impl<'a> CopyTables<'a> {
         s: &Labelled,
     ) -> Result<(), NoMemory>
         requires { m + labels (count_of self.now) self.now.units.us.now k s.now < 2 ^ 20 + 1 }
-        ensures { OnOk result (out.new ≡ out.old ++ piece_of self.now depth k (changes_of copy.now) m s.now) }
+        ensures { OnOk result (out.new.items ≡ out.old.items ++ piece_of self.now depth k (changes_of copy.now) m s.now) }
     {
         if !is_kept(k, &s.stmt) {
             return Ok(());
@@ -102,7 +102,7 @@ impl<'a> CopyTables<'a> {
     fn put_call(
         &self,
         alloc: Global,
-        out: &mut LabelledList,
+        out: &mut Vec<Labelled>,
         depth: usize,
         copy: &CopyOf,
         m: u32,
@@ -111,7 +111,7 @@ impl<'a> CopyTables<'a> {
         arguments: &NameList,
     ) -> Result<(), NoMemory>
         requires { m + 1 + count_of self.now (unit_of_name self.now.units.us.now name.now) < 2 ^ 20 }
-        ensures { OnOk result (out.new ≡ out.old ++ called_in self.now depth (changes_of copy.now) m s.now (record { name = name.now; arguments = arguments.now })) }
+        ensures { OnOk result (out.new.items ≡ out.old.items ++ called_in self.now depth (changes_of copy.now) m s.now (call_to name.now arguments.now)) }
     {
         let passed = copy.all(alloc, arguments)?;
         let g = unit_of(self.units.us, self.units.index, name);
@@ -124,13 +124,13 @@ impl<'a> CopyTables<'a> {
 // Puts what stands before the copy at a CALL: a label, and after a condition the head of a block.
 fn put_opening(
     alloc: Global,
-    out: &mut LabelledList,
+    out: &mut Vec<Labelled>,
     copy: &CopyOf,
     label: u32,
     line: u32,
     stmt: &Stmt,
 ) -> Result<(), NoMemory>
-    ensures { OnOk result (out.new ≡ out.old ++ opening (changes_of copy.now) label line (guard_of stmt.now)) }
+    ensures { OnOk result (out.new.items ≡ out.old.items ++ opening (changes_of copy.now) label line (guard_of stmt.now)) }
 {
     put(out, label, line, Stmt::Continue)?;
     match stmt {
@@ -143,8 +143,8 @@ fn put_opening(
 }
 
 // Puts what stands behind the copy at a CALL: after a condition the end of the block, and a label.
-fn put_closing(out: &mut LabelledList, label: u32, line: u32, stmt: &Stmt) -> Result<(), NoMemory>
-    ensures { OnOk result (out.new ≡ out.old ++ closing label line (guard_of stmt.now)) }
+fn put_closing(out: &mut Vec<Labelled>, label: u32, line: u32, stmt: &Stmt) -> Result<(), NoMemory>
+    ensures { OnOk result (out.new.items ≡ out.old.items ++ closing label line (guard_of stmt.now)) }
 {
     match stmt {
         Stmt::ThenIf(_, _) => {
@@ -162,12 +162,15 @@ fn label_or_none(old: u32, new: u32) -> u32
     if old == 0 { 0 } else { new }
 }
 
-/// Puts a statement behind the list. A list that is full takes no more.
-pub(crate) fn put(out: &mut LabelledList, label: u32, line: u32, stmt: Stmt) -> Result<(), NoMemory>
-    ensures { OnOk result (out.new ≡ out.old ++ bare label line stmt ∷ []) }
+/// Puts a statement behind the list.
+pub(crate) fn put(
+    out: &mut Vec<Labelled>,
+    label: u32,
+    line: u32,
+    stmt: Stmt,
+) -> Result<(), NoMemory>
+    ensures { OnOk result (out.new.items ≡ out.old.items ++ bare label line stmt ∷ []) }
 {
-    if out.len() == u32::MAX {
-        return Err(NoMemory);
-    }
-    out.push(Labelled { label, line, stmt })
+    out.push(Labelled { label, line, stmt })?;
+    Ok(())
 }

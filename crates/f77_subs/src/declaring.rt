@@ -1,9 +1,8 @@
 //! Declarations of entities that are put in.
-ghost use Rattle.std.specs.Prelude.{◌≡◌, ◌<◌, ◌++◌, ◌∷◌, [], length, map, true, IfOk, OnOk};
-ghost use Rattle.std.specs.List.{range_with_len};
+ghost use Rattle.std.specs.Prelude.{◌≡◌, ◌<◌, ◌∷◌, [], length, true, IfOk};
 ghost use Rattle.layout_rules.specs.Declarations.{kind_of};
 ghost use Rattle.layout_rules.specs.Executables.{kind_or_integer as kind_or_integer_of};
-ghost use Rattle.f77_subs.specs.Expansion.{block_size as block_size_of, common_decl as common_decl_of, declared_in as declared_in_of, type_decl as type_decl_of};
+ghost use Rattle.f77_subs.specs.Expansion.{block_size as block_size_of, common_decl as common_decl_of, common_decls as common_decls_of, declared_in as declared_in_of, type_decl as type_decl_of};
 ghost use Rattle.f77_subs.specs.NamedEntities.{has_name, is_declared};
 ghost use Rattle.f77_subs.specs.PutIn.{is_put_in};
 ghost use Rattle.f77_subs.specs.Units.{unit_at};
@@ -72,23 +71,13 @@ pub(crate) fn common_decls(
     block: &Option<Name>,
 ) -> Result<DeclList, NoMemory>
     requires { is_put_in put.now.new.now.text.now.us.now block.now ≡ true }
-    ensures { IfOk result (λ made. made ≡ map (common_decl_of put.now.new.now.text.now.us.now block.now) (range_with_len 0 (block_size_of put.now.new.now.text.now.us.now block.now))) }
+    ensures { IfOk result (λ made. made ≡ common_decls_of put.now.new.now.text.now.us.now block.now) }
 {
     let mut decls = Sequence::new(alloc);
     for i in 0..block_size(put, block) {
-        add_decl(&mut decls, common_decl(alloc, put, block, i)?)?;
+        decls.push(common_decl(alloc, put, block, i)?)?;
     }
     Ok(decls)
-}
-
-// Adds a declarator. A list that is full takes no more.
-fn add_decl(decls: &mut DeclList, decl: Decl) -> Result<(), NoMemory>
-    ensures { OnOk result (decls.new ≡ decls.old ++ decl ∷ []) }
-{
-    if decls.len() == u32::MAX {
-        return Err(NoMemory);
-    }
-    decls.push(decl)
 }
 
 // The new name of a place of a block that is put in.

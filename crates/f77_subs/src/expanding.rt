@@ -1,18 +1,17 @@
 //! The one program that the units of a text come to.
-ghost use Rattle.std.specs.Prelude.{◌≡◌, ◌<◌, ◌≤◌, ◌≢◌, ◌^◌, ℕ, List, Ok, Err, false, length, slice_index_or, sum_by, bytes_eq, IfOk, IfErr};
+ghost use Rattle.std.specs.Prelude.{◌≡◌, ◌<◌, ◌≤◌, ◌≢◌, ◌^◌, ℕ, List, Ok, Err, false, length, slice_index_or, bytes_eq, IfOk, IfErr};
 ghost use Rattle.closed_walks.specs.Graph.{edge_count};
 ghost use Rattle.indexmap.specs.IndexMap.{get};
 ghost use Rattle.layout_rules.specs.Faults.{first_answer};
 ghost use Rattle.f77_subs.specs.CallGraph.{call_graph};
 ghost use Rattle.f77_subs.specs.CallTable.{unit_named};
-ghost use Rattle.f77_subs.specs.Expansion.{whole_list as whole_list_of};
+ghost use Rattle.f77_subs.specs.Expansion.{total_width, whole_list as whole_list_of};
 ghost use Rattle.f77_subs.specs.Heights.{NoneCallsItself};
 ghost use Rattle.f77_subs.specs.NamedEntities.{AreAllNamed};
 ghost use Rattle.f77_subs.specs.NamedTables.{AreFit};
 ghost use Rattle.f77_subs.specs.Refusals.{expansion, has_great_name, list_unless, size_refusals};
 ghost use Rattle.f77_subs.specs.Texts.{IsText};
-ghost use Rattle.f77_subs.specs.Units.{runs as runs_of, unit_at};
-ghost use Rattle.f77_subs.specs.Widths.{body_width, width};
+ghost use Rattle.f77_subs.specs.Units.{runs as runs_of};
 
 use crate::SubEnd;
 use crate::form_refusals::form_refusal;
@@ -101,7 +100,7 @@ fn list_of(
     requires fit { AreFit text.now.us.now }
     requires named { AreAllNamed text.now.us.now }
     requires small { has_great_name text.now.us.now ≡ false }
-    requires few { sum_by (width (body_width text.now.us.now (length text.now.us.now)) text.now.us.now 0) (unit_at text.now.us.now 0) ≤ 4000 }
+    requires few { total_width text.now.us.now ≤ 4000 }
     ensures { IfOk result (λ list. list ≡ whole_list_of text.now.us.now) }
 {
     let new = NewNames::of(alloc, text)?;

@@ -1,5 +1,5 @@
 //! The names of a text in its expansion.
-ghost use Rattle.std.specs.Prelude.{◌≡◌, ◌<◌, ℕ, List, length, Some, option_copied, false, true, bytes_eq, IfOk};
+ghost use Rattle.std.specs.Prelude.{◌≡◌, ◌<◌, ◌≤◌, ℕ, List, length, Some, option_copied, false, true, bytes_eq, IfOk};
 ghost use Rattle.std.specs.List.{list_any};
 ghost use Rattle.std.specs.Option.{is_some};
 ghost use Rattle.indexmap.specs.IndexMap.{get};
@@ -9,7 +9,7 @@ ghost use Rattle.f77_subs.specs.Names.{main_name, name_for, names_of_unit, same_
 ghost use Rattle.f77_subs.specs.NewNames.{own_texts};
 ghost use Rattle.f77_subs.specs.Refusals.{has_great_name};
 ghost use Rattle.f77_subs.specs.Units.{unit_at};
-ghost use Rattle.f77_subs.specs.UnitTables.{new_name};
+ghost use Rattle.f77_subs.specs.UnitTables.{AreNewNames, new_name};
 
 use crate::entity::Entity;
 use crate::text_entities::TextEntities;
@@ -31,6 +31,7 @@ pub struct NewNames<'a> {
     names: Vec<Name>,
     ghost all_named: { names.items ≡ own_texts text.now.us.now },
     ghost as_many: { length names.items ≡ length (y_entities text.now.us.now) },
+    ghost few: { length names.items ≤ 99999 },
     ghost named: { AreAllNamed text.now.us.now },
 }
 
@@ -100,7 +101,7 @@ impl<'a> NewNames<'a> {
     ) -> Result<IndexMap<Name, NewName>, NoMemory>
         requires sub { 0 < k }
         requires unit { k < length self.now.text.now.us.now }
-        ensures { IfOk result (λ new. (x : List ℕ) → list_any (bytes_eq x) (names_of_unit (unit_at self.now.text.now.us.now k)) ≡ true → get bytes_eq new x ≡ Some (new_name self.now.text.now.us.now k x)) }
+        ensures { IfOk result (λ new. AreNewNames self.now.text.now.us.now k (get bytes_eq new)) }
     {
         let kept = &self.text.kept[k];
         let mut new = IndexMap::new(alloc);

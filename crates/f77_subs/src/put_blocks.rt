@@ -3,7 +3,7 @@ ghost use Rattle.std.specs.Prelude.{◌≡◌, ◌<◌, [], ℕ, List, Option, f
 ghost use Rattle.std.specs.List.{list_any};
 ghost use Rattle.indexmap.specs.IndexMap.{get};
 ghost use Rattle.f77_tree.specs.Places.{same_block};
-ghost use Rattle.layout_rules.specs.Faults.{answer_or};
+ghost use Rattle.declared_names.specs.KeptDeclarations.{Keeps};
 ghost use Rattle.f77_subs.specs.CallTable.{unit_if};
 ghost use Rattle.f77_subs.specs.Expansion.{blocks as blocks_of, with_block};
 ghost use Rattle.f77_subs.specs.Names.{has_block};
@@ -77,7 +77,7 @@ fn note_unit(
     unit: &[Labelled],
     k: usize,
 ) -> Result<(), NoMemory>
-    ensures { OnOk result ((block : Option (List ℕ)) → get same_block firsts.new block ≡ answer_or (get same_block firsts.old block) (unit_if (has_block unit.now block) k)) }
+    ensures { OnOk result (Keeps same_block firsts.old firsts.new (λ b. unit_if (has_block unit.now b) k)) }
 {
     let commons = commons_of(alloc, unit)?;
     note_parts(alloc, firsts, commons.as_slice(), k)?;
@@ -91,7 +91,7 @@ fn note_parts(
     parts: &[CommonPart],
     k: usize,
 ) -> Result<(), NoMemory>
-    ensures { OnOk result ((block : Option (List ℕ)) → get same_block firsts.new block ≡ answer_or (get same_block firsts.old block) (unit_if (list_any (λ part. same_block part.block block) parts.now) k)) }
+    ensures { OnOk result (Keeps same_block firsts.old firsts.new (λ b. unit_if (list_any (λ part. same_block part.block b) parts.now) k)) }
 {
     for part in parts {
         note_block(alloc, firsts, &part.block, k)?;
@@ -105,7 +105,7 @@ fn note_block(
     block: &Option<Name>,
     k: usize,
 ) -> Result<(), NoMemory>
-    ensures { OnOk result ((other : Option (List ℕ)) → get same_block firsts.new other ≡ answer_or (get same_block firsts.old other) (unit_if (same_block block.now other) k)) }
+    ensures { OnOk result (Keeps same_block firsts.old firsts.new (λ b. unit_if (same_block block.now b) k)) }
 {
     if has_block_in(firsts, block) {
         return Ok(());

@@ -1,13 +1,12 @@
 //! What is put into the main program: declarations of the entities that subroutines add, and their EQUIVALENCE and DATA.
-ghost use Rattle.std.specs.Prelude.{◌≡◌, ◌<◌, ◌++◌, ◌∷◌, [], ℕ, List, Option, false, true, filter, flat_map, if◌then◌else◌, length, map, slice_index_or, IfOk, OnOk};
+ghost use Rattle.std.specs.Prelude.{◌≡◌, ◌<◌, ◌++◌, ℕ, List, Option, false, true, length, slice_index_or, IfOk, OnOk};
 ghost use Rattle.std.specs.List.{list_any};
 ghost use Rattle.indexmap.specs.IndexMap.{get};
 ghost use Rattle.f77_tree.specs.Places.{same_block};
-ghost use Rattle.f77_subs.specs.Expansion.{blocks as blocks_of, common_of, datas, is_running as is_running_of, put_in, ties, type_of, units_but_main};
+ghost use Rattle.f77_subs.specs.Expansion.{blocks as blocks_of, put_in};
 ghost use Rattle.layout_rules.specs.Layout.{last_line};
 ghost use Rattle.f77_subs.specs.NamedEntities.{has_name, is_declared};
-ghost use Rattle.f77_subs.specs.Names.{y_entities};
-ghost use Rattle.f77_subs.specs.PutIn.{first_with_block, is_put_in as is_put_in_of, is_run_block};
+ghost use Rattle.f77_subs.specs.PutIn.{common_if, commons, first_with_block, is_put_in as is_put_in_of, is_run_block, storage, type_if, types};
 ghost use Rattle.f77_subs.specs.Units.{runs as runs_of, unit_at};
 
 use crate::copying::put;
@@ -16,11 +15,11 @@ use crate::entity::{Entity, copy_of_block};
 use crate::new_names::NewNames;
 use crate::put_blocks::{all_blocks, first_units, running_blocks};
 use crate::put_counts::is_running;
-use crate::put_storage::{put_datas_if, put_ties_if};
+use crate::put_storage::{StorageKind, put_storage_if};
 use crate::text_names::Blocks;
 use crate::unit_lines::line_of_end;
 use df_sequence::{NoMemory, Sequence};
-use f77_tree::{CommonPart, LabelledList, Name, Stmt};
+use f77_tree::{CommonPart, Labelled, Name, Stmt};
 use indexmap::IndexMap;
 use std::alloc::Global;
 
@@ -71,19 +70,19 @@ impl<'a> PutIn<'a> {
     }
 
     /// Puts all of it behind the list.
-    pub(crate) fn put_all(&self, alloc: Global, out: &mut LabelledList) -> Result<(), NoMemory>
-        ensures { OnOk result (out.new ≡ out.old ++ put_in self.now.new.now.text.now.us.now) }
+    pub(crate) fn put_all(&self, alloc: Global, out: &mut Vec<Labelled>) -> Result<(), NoMemory>
+        ensures { OnOk result (out.new.items ≡ out.old.items ++ put_in self.now.new.now.text.now.us.now) }
     {
         self.put_types(alloc, out)?;
         self.put_commons(alloc, out)?;
-        self.put_ties(alloc, out)?;
-        self.put_datas(alloc, out)?;
+        self.put_storage(alloc, out, StorageKind::Equivalence)?;
+        self.put_storage(alloc, out, StorageKind::Data)?;
         Ok(())
     }
 
     // A type statement for each entity of a subroutine that runs.
-    fn put_types(&self, alloc: Global, out: &mut LabelledList) -> Result<(), NoMemory>
-        ensures { OnOk result (out.new ≡ out.old ++ map (type_of self.now.new.now.text.now.us.now self.now.line) (filter (is_running_of self.now.new.now.text.now.us.now) (y_entities self.now.new.now.text.now.us.now))) }
+    fn put_types(&self, alloc: Global, out: &mut Vec<Labelled>) -> Result<(), NoMemory>
+        ensures { OnOk result (out.new.items ≡ out.old.items ++ types self.now.new.now.text.now.us.now self.now.line) }
     {
         for i in 0..self.new.text.own.len() {
             self.put_type(alloc, out, self.new.text.own.at(i))?;
@@ -95,12 +94,12 @@ impl<'a> PutIn<'a> {
     fn put_type(
         &self,
         alloc: Global,
-        out: &mut LabelledList,
+        out: &mut Vec<Labelled>,
         entity: &Entity,
     ) -> Result<(), NoMemory>
         requires named { has_name self.now.new.now.text.now.us.now entity.now ≡ true }
         requires declared { is_declared self.now.new.now.text.now.us.now entity.now ≡ true }
-        ensures { OnOk result (out.new ≡ out.old ++ (if is_running_of self.now.new.now.text.now.us.now entity.now then type_of self.now.new.now.text.now.us.now self.now.line entity.now ∷ [] else [])) }
+        ensures { OnOk result (out.new.items ≡ out.old.items ++ type_if self.now.new.now.text.now.us.now self.now.line entity.now) }
     {
         if !is_running(self.new.text.us, self.runs, &self.running, entity) {
             return Ok(());
@@ -111,8 +110,8 @@ impl<'a> PutIn<'a> {
     }
 
     // A COMMON statement for each block that subroutines that run add.
-    fn put_commons(&self, alloc: Global, out: &mut LabelledList) -> Result<(), NoMemory>
-        ensures { OnOk result (out.new ≡ out.old ++ map (common_of self.now.new.now.text.now.us.now self.now.line) (filter (is_put_in_of self.now.new.now.text.now.us.now) (blocks_of self.now.new.now.text.now.us.now))) }
+    fn put_commons(&self, alloc: Global, out: &mut Vec<Labelled>) -> Result<(), NoMemory>
+        ensures { OnOk result (out.new.items ≡ out.old.items ++ commons self.now.new.now.text.now.us.now self.now.line) }
     {
         for i in 0..self.blocks.len() {
             self.put_common(alloc, out, self.blocks.at(i))?;
@@ -124,10 +123,10 @@ impl<'a> PutIn<'a> {
     fn put_common(
         &self,
         alloc: Global,
-        out: &mut LabelledList,
+        out: &mut Vec<Labelled>,
         block: &Option<Name>,
     ) -> Result<(), NoMemory>
-        ensures { OnOk result (out.new ≡ out.old ++ (if is_put_in_of self.now.new.now.text.now.us.now block.now then common_of self.now.new.now.text.now.us.now self.now.line block.now ∷ [] else [])) }
+        ensures { OnOk result (out.new.items ≡ out.old.items ++ common_if self.now.new.now.text.now.us.now self.now.line block.now) }
     {
         if !self.is_added(block) {
             return Ok(());
@@ -150,22 +149,17 @@ impl<'a> PutIn<'a> {
         !self.new.text.main.has(block) && self.running.has(block)
     }
 
-    // The EQUIVALENCE statements of subroutines that run.
-    fn put_ties(&self, alloc: Global, out: &mut LabelledList) -> Result<(), NoMemory>
-        ensures { OnOk result (out.new ≡ out.old ++ flat_map (λ k. flat_map (ties self.now.new.now.text.now.us.now k) (unit_at self.now.new.now.text.now.us.now k)) (units_but_main self.now.new.now.text.now.us.now)) }
+    // The statements of this kind of subroutines that run.
+    fn put_storage(
+        &self,
+        alloc: Global,
+        out: &mut Vec<Labelled>,
+        kind: StorageKind,
+    ) -> Result<(), NoMemory>
+        ensures { OnOk result (out.new.items ≡ out.old.items ++ storage kind self.now.new.now.text.now.us.now) }
     {
         for k in 1..self.new.text.us.len() {
-            put_ties_if(alloc, self.new, out, self.runs[k], k)?;
-        }
-        Ok(())
-    }
-
-    // The DATA statements of subroutines that run.
-    fn put_datas(&self, alloc: Global, out: &mut LabelledList) -> Result<(), NoMemory>
-        ensures { OnOk result (out.new ≡ out.old ++ flat_map (λ k. flat_map (datas self.now.new.now.text.now.us.now k) (unit_at self.now.new.now.text.now.us.now k)) (units_but_main self.now.new.now.text.now.us.now)) }
-    {
-        for k in 1..self.new.text.us.len() {
-            put_datas_if(alloc, self.new, out, self.runs[k], k)?;
+            put_storage_if(alloc, self.new, out, kind, self.runs[k], k)?;
         }
         Ok(())
     }

@@ -5,128 +5,116 @@ ghost use Rattle.layout_rules.specs.Declarations.{is_array};
 ghost use Rattle.f77_subs.specs.Entities.{entity_of};
 ghost use Rattle.f77_subs.specs.Expansion.{datas, init_for, member_for, members_for, ties};
 ghost use Rattle.f77_subs.specs.NamedEntities.{HaveNames, has_name};
+ghost use Rattle.f77_subs.specs.PutIn.{stored, unit_storage};
 ghost use Rattle.f77_subs.specs.Refusals.{is_of_storage};
 ghost use Rattle.f77_subs.specs.Units.{unit_at};
 
 use crate::copying::put;
 use crate::new_names::NewNames;
 use df_sequence::{Copied, NoMemory, Sequence};
-use f77_tree::{
-    GroupList, InitPart, InitPartList, Labelled, LabelledList, Member, MemberList, Stmt,
-};
+use f77_tree::{GroupList, InitPart, InitPartList, Labelled, Member, MemberList, Stmt};
 use std::alloc::Global;
 
-/// Puts the EQUIVALENCE statements of the unit k behind the list, if it runs.
-pub(crate) fn put_ties_if(
+/// Which statements on storage are put in.
+#[derive(Clone, Copy, Drop)]
+pub(crate) enum StorageKind {
+    Equivalence,
+    Data,
+}
+
+/// Puts the statements of this kind of the unit k behind the list, if it runs.
+pub(crate) fn put_storage_if(
     alloc: Global,
     new: &NewNames,
-    out: &mut LabelledList,
+    out: &mut Vec<Labelled>,
+    kind: StorageKind,
     runs: bool,
     k: usize,
 ) -> Result<(), NoMemory>
     requires sub { 0 < k }
     requires unit { k < length new.now.text.now.us.now }
-    ensures { OnOk result (out.new ≡ out.old ++ (if runs then flat_map (ties new.now.text.now.us.now k) (unit_at new.now.text.now.us.now k) else [])) }
+    ensures { OnOk result (out.new.items ≡ out.old.items ++ (if runs then unit_storage kind new.now.text.now.us.now k else [])) }
 {
     if runs {
-        put_unit_ties(alloc, new, out, k)
+        put_unit_storage(alloc, new, out, kind, k)
     } else {
         Ok(())
     }
 }
 
-// Puts the EQUIVALENCE statements of the unit k behind the list.
-fn put_unit_ties(
+// Puts the statements of this kind of the unit k behind the list.
+fn put_unit_storage(
     alloc: Global,
     new: &NewNames,
-    out: &mut LabelledList,
+    out: &mut Vec<Labelled>,
+    kind: StorageKind,
     k: usize,
 ) -> Result<(), NoMemory>
     requires sub { 0 < k }
     requires unit { k < length new.now.text.now.us.now }
-    ensures { OnOk result (out.new ≡ out.old ++ flat_map (ties new.now.text.now.us.now k) (unit_at new.now.text.now.us.now k)) }
+    ensures { OnOk result (out.new.items ≡ out.old.items ++ unit_storage kind new.now.text.now.us.now k) }
 {
     let unit = new.text.us.at(k);
     for s in unit {
-        put_tie(alloc, new, out, k, s)?;
+        put_stored(alloc, new, out, kind, k, s)?;
     }
     Ok(())
+}
+
+// Puts a statement of the unit k, where it is of this kind.
+fn put_stored(
+    alloc: Global,
+    new: &NewNames,
+    out: &mut Vec<Labelled>,
+    kind: StorageKind,
+    k: usize,
+    s: &Labelled,
+) -> Result<(), NoMemory>
+    requires unit { k < length new.now.text.now.us.now }
+    requires named { is_of_storage s.now.stmt ≡ true → HaveNames new.now.text.now.us.now k (appearing (is_array (unit_at new.now.text.now.us.now k)) s.now.stmt) }
+    ensures { OnOk result (out.new.items ≡ out.old.items ++ stored kind new.now.text.now.us.now k s.now) }
+{
+    match kind {
+        StorageKind::Equivalence => put_tie(alloc, new, out, k, s),
+        StorageKind::Data => put_data(alloc, new, out, k, s),
+    }
 }
 
 fn put_tie(
     alloc: Global,
     new: &NewNames,
-    out: &mut LabelledList,
+    out: &mut Vec<Labelled>,
     k: usize,
     s: &Labelled,
 ) -> Result<(), NoMemory>
     requires unit { k < length new.now.text.now.us.now }
     requires named { is_of_storage s.now.stmt ≡ true → HaveNames new.now.text.now.us.now k (appearing (is_array (unit_at new.now.text.now.us.now k)) s.now.stmt) }
-    ensures { OnOk result (out.new ≡ out.old ++ ties new.now.text.now.us.now k s.now) }
+    ensures { OnOk result (out.new.items ≡ out.old.items ++ ties new.now.text.now.us.now k s.now) }
 {
     match &s.stmt {
         Stmt::Equivalence(groups) => {
             let changed = changed_groups(alloc, new, k, groups)?;
-            put(out, 0, s.line, Stmt::Equivalence(changed))?;
-            Ok(())
+            put(out, 0, s.line, Stmt::Equivalence(changed))
         }
         _ => Ok(()),
     }
 }
 
-/// Puts the DATA statements of the unit k behind the list, if it runs.
-pub(crate) fn put_datas_if(
-    alloc: Global,
-    new: &NewNames,
-    out: &mut LabelledList,
-    runs: bool,
-    k: usize,
-) -> Result<(), NoMemory>
-    requires sub { 0 < k }
-    requires unit { k < length new.now.text.now.us.now }
-    ensures { OnOk result (out.new ≡ out.old ++ (if runs then flat_map (datas new.now.text.now.us.now k) (unit_at new.now.text.now.us.now k) else [])) }
-{
-    if runs {
-        put_unit_datas(alloc, new, out, k)
-    } else {
-        Ok(())
-    }
-}
-
-// Puts the DATA statements of the unit k behind the list.
-fn put_unit_datas(
-    alloc: Global,
-    new: &NewNames,
-    out: &mut LabelledList,
-    k: usize,
-) -> Result<(), NoMemory>
-    requires sub { 0 < k }
-    requires unit { k < length new.now.text.now.us.now }
-    ensures { OnOk result (out.new ≡ out.old ++ flat_map (datas new.now.text.now.us.now k) (unit_at new.now.text.now.us.now k)) }
-{
-    let unit = new.text.us.at(k);
-    for s in unit {
-        put_data(alloc, new, out, k, s)?;
-    }
-    Ok(())
-}
-
 fn put_data(
     alloc: Global,
     new: &NewNames,
-    out: &mut LabelledList,
+    out: &mut Vec<Labelled>,
     k: usize,
     s: &Labelled,
 ) -> Result<(), NoMemory>
     requires unit { k < length new.now.text.now.us.now }
     requires named { is_of_storage s.now.stmt ≡ true → HaveNames new.now.text.now.us.now k (appearing (is_array (unit_at new.now.text.now.us.now k)) s.now.stmt) }
-    ensures { OnOk result (out.new ≡ out.old ++ datas new.now.text.now.us.now k s.now) }
+    ensures { OnOk result (out.new.items ≡ out.old.items ++ datas new.now.text.now.us.now k s.now) }
 {
     match &s.stmt {
         Stmt::Init(parts) => {
             let changed = changed_parts(alloc, new, k, parts)?;
-            put(out, 0, s.line, Stmt::Init(changed))?;
-            Ok(())
+            put(out, 0, s.line, Stmt::Init(changed))
         }
         _ => Ok(()),
     }

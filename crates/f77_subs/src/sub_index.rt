@@ -2,7 +2,7 @@
 ghost use Rattle.std.specs.Prelude.{◌≡◌, ℕ, List, bytes_eq, IfOk, OnOk};
 ghost use Rattle.std.specs.List.{list_any};
 ghost use Rattle.indexmap.specs.IndexMap.{get};
-ghost use Rattle.layout_rules.specs.Faults.{answer_or};
+ghost use Rattle.declared_names.specs.KeptDeclarations.{Keeps};
 ghost use Rattle.f77_subs.specs.Units.{is_named, is_sub_of, sub_name};
 ghost use Rattle.f77_subs.specs.CallTable.{unit_if, unit_named};
 
@@ -30,7 +30,7 @@ fn note_subs(
     unit: &[Labelled],
     k: usize,
 ) -> Result<(), NoMemory>
-    ensures { OnOk result ((name : List ℕ) → get bytes_eq index.new name ≡ answer_or (get bytes_eq index.old name) (unit_if (list_any (is_sub_of name) unit.now) k)) }
+    ensures { OnOk result (Keeps bytes_eq index.old index.new (λ x. unit_if (list_any (is_sub_of x) unit.now) k)) }
 {
     for s in unit {
         note_sub(alloc, index, &s.stmt, k)?;
@@ -45,7 +45,7 @@ fn note_sub(
     stmt: &Stmt,
     k: usize,
 ) -> Result<(), NoMemory>
-    ensures { OnOk result ((name : List ℕ) → get bytes_eq index.new name ≡ answer_or (get bytes_eq index.old name) (unit_if (is_named name (sub_name stmt.now)) k)) }
+    ensures { OnOk result (Keeps bytes_eq index.old index.new (λ x. unit_if (is_named x (sub_name stmt.now)) k)) }
 {
     match stmt {
         Stmt::Sub(name, _) => note_name(alloc, index, name, k),
@@ -60,7 +60,7 @@ pub(crate) fn note_name(
     name: &Name,
     k: usize,
 ) -> Result<(), NoMemory>
-    ensures { OnOk result ((other : List ℕ) → get bytes_eq index.new other ≡ answer_or (get bytes_eq index.old other) (unit_if (bytes_eq name.now other) k)) }
+    ensures { OnOk result (Keeps bytes_eq index.old index.new (λ x. unit_if (bytes_eq name.now x) k)) }
 {
     if !index.contains_key(name) {
         index.insert(name.copy(alloc)?, k)?;

@@ -1,11 +1,10 @@
 //! The COMMON blocks of a unit.
-ghost use Rattle.std.specs.Prelude.{◌≡◌, ◌+◌, ◌++◌, ◌∷◌, [], List, Option, ℕ, option_copied, if◌then◌else◌, Some, None, bytes_eq, IfOk, OnOk};
+ghost use Rattle.std.specs.Prelude.{◌≡◌, ◌*◌, ◌^◌, ◌++◌, ◌∷◌, [], List, Option, ℕ, length, option_copied, if◌then◌else◌, Some, None, bytes_eq, IfOk, OnOk};
 ghost use Rattle.indexmap.specs.IndexMap.{get};
 ghost use Rattle.f77_tree.specs.Places.{same_block};
-ghost use Rattle.layout_rules.specs.Faults.{answer_or};
-ghost use Rattle.f77_subs.specs.Entities.{Entity as EntityOf, InBlock};
+ghost use Rattle.declared_names.specs.KeptDeclarations.{Keeps};
 ghost use Rattle.f77_subs.specs.Names.{same_entity};
-ghost use Rattle.f77_subs.specs.UnitBlocks.{AreBlocksOf, AreKept, InCommon, declared_by, in_commons, or_zero};
+ghost use Rattle.f77_subs.specs.UnitBlocks.{AreBlocksOf, AreKept, HasRoomFor, InCommon, Sets, declared_by, in_commons, or_zero, place_if};
 
 use crate::entity::{Entity, copy_of_block};
 use df_sequence::{Copied, NoMemory};
@@ -38,6 +37,7 @@ impl UnitBlocks {
 
     // Notes the names of parts of blocks.
     fn note_parts(&mut self, alloc: Global, parts: &[CommonPart]) -> Result<(), NoMemory>
+        requires { HasRoomFor (2 ^ 32 * length parts.now) self.old }
         ensures { OnOk result ((common : List InCommon) → AreKept common self.old → AreKept (common ++ in_commons parts.now) self.new) }
     {
         for part in parts {
@@ -64,6 +64,7 @@ impl UnitBlocks {
         block: &Option<Name>,
         decls: &[Decl],
     ) -> Result<(), NoMemory>
+        requires { HasRoomFor (length decls.now) self.old }
         ensures { OnOk result ((common : List InCommon) → AreKept common self.old → AreKept (common ++ declared_by block.now decls.now) self.new) }
     {
         for decl in decls {
@@ -72,14 +73,12 @@ impl UnitBlocks {
         Ok(())
     }
 
-    // Notes a name of a block. A block that is full takes no more.
+    // Notes a name of a block.
     fn note(&mut self, alloc: Global, block: &Option<Name>, name: &Name) -> Result<(), NoMemory>
+        requires { HasRoomFor 1 self.old }
         ensures { OnOk result ((common : List InCommon) → AreKept common self.old → AreKept (common ++ record { block = block.now; name = name.now } ∷ []) self.new) }
     {
         let place = self.size(block);
-        if place == usize::MAX {
-            return Err(NoMemory);
-        }
         note_number(&mut self.sizes, copy_of_block(alloc, block)?, place + 1)?;
         let entity = Entity::InBlock(copy_of_block(alloc, block)?, place);
         note_name(&mut self.names, entity, name.copy(alloc)?)?;
@@ -118,7 +117,7 @@ pub(crate) fn note_number(
     block: Option<Name>,
     number: usize,
 ) -> Result<(), NoMemory>
-    ensures { OnOk result ((other : Option (List ℕ)) → get same_block numbers.new other ≡ (if same_block block other then Some number else get same_block numbers.old other)) }
+    ensures { OnOk result (Sets same_block block number (get same_block numbers.old) (get same_block numbers.new)) }
 {
     numbers.insert(block, number)?;
     Ok(())
@@ -126,7 +125,7 @@ pub(crate) fn note_number(
 
 // Notes the name of an entity in place of an older one.
 fn note_name(names: &mut IndexMap<Entity, Name>, entity: Entity, name: Name) -> Result<(), NoMemory>
-    ensures { OnOk result ((other : EntityOf) → get same_entity names.new other ≡ (if same_entity entity other then Some name else get same_entity names.old other)) }
+    ensures { OnOk result (Sets same_entity entity name (get same_entity names.old) (get same_entity names.new)) }
 {
     names.insert(entity, name)?;
     Ok(())
@@ -140,7 +139,7 @@ fn note_entity(
     place: usize,
     name: &Name,
 ) -> Result<(), NoMemory>
-    ensures { OnOk result ((x : List ℕ) → get bytes_eq entities.new x ≡ answer_or (get bytes_eq entities.old x) (if bytes_eq name.now x then Some (InBlock block.now place) else None)) }
+    ensures { OnOk result (Keeps bytes_eq entities.old entities.new (λ x. place_if block.now place (bytes_eq name.now x))) }
 {
     if !entities.contains_key(name) {
         let entity = Entity::InBlock(copy_of_block(alloc, block)?, place);

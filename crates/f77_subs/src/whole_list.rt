@@ -1,14 +1,12 @@
 //! The main program with copies in place of its CALLs, and with what is put in.
-ghost use Rattle.std.specs.Prelude.{◌≡◌, ◌<◌, ◌≤◌, ◌^◌, ℕ, List, length, nat_lt, not, sum_by, bytes_eq, IfOk};
+ghost use Rattle.std.specs.Prelude.{◌≡◌, ◌<◌, ◌≤◌, ◌^◌, ℕ, List, length, nat_lt, not, bytes_eq, IfOk};
 ghost use Rattle.indexmap.specs.IndexMap.{get};
 ghost use Rattle.layout_rules.specs.Order.{rank};
 ghost use Rattle.f77_subs.specs.CallTable.{unit_named};
-ghost use Rattle.f77_subs.specs.Expansion.{declared_first as declared_first_of, whole_list as whole_list_of};
+ghost use Rattle.f77_subs.specs.Expansion.{declared_first as declared_first_of, total_width, whole_list as whole_list_of};
 ghost use Rattle.f77_subs.specs.Heights.{NoneCallsItself};
 ghost use Rattle.f77_subs.specs.LabelCounts.{labels_of};
 ghost use Rattle.f77_subs.specs.NamedTables.{AreFit, AreTablesFor};
-ghost use Rattle.f77_subs.specs.Units.{unit_at};
-ghost use Rattle.f77_subs.specs.Widths.{body_width, width};
 
 use crate::label_counts::LabelCounts;
 use crate::labels::label_counts;
@@ -36,7 +34,7 @@ pub(crate) fn whole_list(
     requires index { (name : List ℕ) → get bytes_eq index.now name ≡ unit_named us.now name }
     requires none { NoneCallsItself us.now }
     requires fit { AreFit us.now }
-    requires few { sum_by (width (body_width us.now (length us.now)) us.now 0) (unit_at us.now 0) ≤ 4000 }
+    requires few { total_width us.now ≤ 4000 }
     ensures { IfOk result (λ list. list ≡ whole_list_of us.now) }
 {
     let counts = label_counts(alloc, us, index, MOST_LABELS)?;
@@ -50,15 +48,16 @@ pub(crate) fn whole_list(
         units,
         tables: &tables,
     };
-    put_whole(alloc, &copies, put)
+    let list = put_whole(alloc, &copies, put)?;
+    in_sequence(alloc, list)
 }
 
 // The list, by the tables of all units.
-fn put_whole(alloc: Global, copies: &CopyTables, put: &PutIn) -> Result<LabelledList, NoMemory>
+fn put_whole(alloc: Global, copies: &CopyTables, put: &PutIn) -> Result<Vec<Labelled>, NoMemory>
     requires same { put.now.new.now.text.now.us.now ≡ copies.now.units.us.now }
     requires tables { AreTablesFor copies.now }
-    requires few { sum_by (width (body_width copies.now.units.us.now (length copies.now.units.us.now)) copies.now.units.us.now 0) (unit_at copies.now.units.us.now 0) ≤ 4000 }
-    ensures { IfOk result (λ list. list ≡ whole_list_of copies.now.units.us.now) }
+    requires few { total_width copies.now.units.us.now ≤ 4000 }
+    ensures { IfOk result (λ list. list.items ≡ whole_list_of copies.now.units.us.now) }
 {
     let us = copies.units.us;
     let main = us.at(0);
@@ -69,11 +68,23 @@ fn put_whole(alloc: Global, copies: &CopyTables, put: &PutIn) -> Result<Labelled
     };
     let first = declared_first(main);
     let before = labels_in_main(&copies.units, &main[..first]);
-    let mut out = Sequence::new(alloc);
+    let mut out = Vec::new(alloc);
     copies.put_pieces(alloc, &mut out, us.len(), 0, &copy, 0, &main[..first])?;
     put.put_all(alloc, &mut out)?;
     copies.put_pieces(alloc, &mut out, us.len(), 0, &copy, before, &main[first..])?;
     Ok(out)
+}
+
+// The statements of a program, as the list that layout reads.
+fn in_sequence(alloc: Global, stmts: Vec<Labelled>) -> Result<LabelledList, NoMemory>
+    requires few { length stmts.items ≤ 4000 }
+    ensures { IfOk result (λ list. list ≡ stmts.items) }
+{
+    let mut list = Sequence::with_capacity(alloc, stmts.len())?;
+    for s in stmts {
+        list.push(s)?;
+    }
+    Ok(list)
 }
 
 // How many statements of the main program stand before its first DATA or executable statement.

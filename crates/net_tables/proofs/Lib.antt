@@ -1,5 +1,6 @@
 pub mod TableLemmas
 pub mod NodeRanges
+pub mod NodeCounts
 pub mod TokenLineLemmas
 mod PlaceRows
 pub mod PlacesLemmas

@@ -1,6 +1,6 @@
 //! A new board, and what stands on it before any firing.
 
-ghost use Rattle.std.specs.Prelude.{◌≡◌, ℕ, ℤ, Bool, List, None, All, length, map, replicate, IfOk};
+ghost use Rattle.std.specs.Prelude.{◌≡◌, ◌≤◌, ℕ, ℤ, Bool, List, None, All, length, map, replicate, IfOk};
 ghost use Rattle.op_table.specs.Words.{IsWord};
 ghost use Rattle.class_set.specs.Members.{IsWidth};
 ghost use Rattle.f77_tree.specs.declared.programs.Program.{Program};
@@ -68,6 +68,7 @@ fn make_plan<'a, const W: usize>(
     requires width { IsWidth W }
     requires parts { AreParts p.now f.now (touches_in touch.now) l.now }
     requires sets { length touch.now ≡ (flow_graph p.now.execs).graph.nodes }
+    requires few { l.now.lines ≤ 1024 }
     ensures { IfOk result (λ plan. net_in plan ≡ net_with p.now input.now.items (touches_in touch.now) l.now) }
 {
     flow_graph_has_shape();
@@ -83,7 +84,7 @@ fn make_plan<'a, const W: usize>(
 }
 
 /// What firings never change, with the tables in which they look it up, for a program, its own parts and a copy of its data. Errors:
-/// memory runs out, or there are more nodes than can be numbered (2^32 or more).
+/// memory runs out.
 pub fn make_board<'a, const W: usize>(
     alloc: Global,
     p: &'a Program,
@@ -95,6 +96,7 @@ pub fn make_board<'a, const W: usize>(
     requires width { IsWidth W }
     requires parts { AreParts p.now f.now (touches_in touch.now) l.now }
     requires sets { length touch.now ≡ (flow_graph p.now.execs).graph.nodes }
+    requires few { l.now.lines ≤ 1024 }
     ensures { IfOk result (λ board. net_on board ≡ net_with p.now input.now.items (touches_in touch.now) l.now) }
 {
     let plan = make_plan(alloc, p, f, touch, l, input)?;

@@ -1,13 +1,13 @@
 //! The tables of a net, made from its parts.
 
-ghost use Rattle.std.specs.Prelude.{◌≡◌, ◌<◌, ◌^◌, ◌++◌, ◌&&◌, ℕ, suc, All, length, map, slice_index, IfOk, OnOk};
+ghost use Rattle.std.specs.Prelude.{◌≡◌, ◌+◌, ◌<◌, ◌^◌, ◌++◌, ◌&&◌, ℕ, suc, All, length, map, slice_index, IfOk, OnOk};
 ghost use Rattle.std.specs.List.{range_with_len};
 ghost use Rattle.class_set.specs.ClassSet.{holds};
 ghost use Rattle.closed_walks.specs.Graph.{edge_count, to};
 ghost use Rattle.cfg_build.specs.Joined.{is_end};
 ghost use Rattle.cfg_build.specs.Passes.{outs as outs_in};
 ghost use Rattle.firing.specs.declared.system.NodeName.TheVariants.{Merge, Switch};
-ghost use Rattle.net_board.specs.Nodes.{graph_in, is_free, led_to, passing, touched, nodes_at, nodes_of, first_node};
+ghost use Rattle.net_board.specs.Nodes.{graph_in, is_free, led_to, passing, touched, nodes_at, nodes_below, nodes_of, first_node};
 ghost use Rattle.net_board.specs.ControlCourse.{arrival, is_idle, passed};
 ghost use Rattle.net_board.specs.Simulation.{HasExecs};
 ghost use Rattle.net_tables.specs.NetTables.{AreTables, all_edges, all_pieces};
@@ -16,7 +16,7 @@ ghost use Rattle.net_tables.specs.PlaceRowSteps.{is_led_past};
 
 use crate::places::{PlaceRows, all_places};
 use crate::program_parts::Plan;
-use cfg_build::PieceKind;
+use cfg_build::{PieceKind, pieces_are_few};
 use class_set::ClassSet;
 use closed_walks::Digraph;
 use dep_routing::{least_above, touched_lines};
@@ -44,7 +44,7 @@ pub(crate) struct Tables {
     pub(crate) places: PlaceRows,
 }
 
-/// The tables of a net. More nodes than can be numbered are allocation failure.
+/// The tables of a net.
 pub(crate) fn make_tables<const W: usize>(alloc: Global, plan: &Plan<W>) -> Result<Tables, NoMemory>
     requires { HasExecs (net_in plan.now) }
     ensures { IfOk result (λ t. AreTables (net_in plan.now) t) }
@@ -71,7 +71,9 @@ struct NumberedNodes {
     firsts: Vec<u32>,
 }
 
+/// The nodes. A program has few pieces, and each of them a node for each line and one more at most: so all can be numbered.
 fn numbered_nodes<const W: usize>(alloc: Global, plan: &Plan<W>) -> Result<NumberedNodes, NoMemory>
+    requires { HasExecs (net_in plan.now) }
     ensures names { IfOk result (λ n. n.names ≡ nodes_of (net_in plan.now)) }
     ensures few { IfOk result (λ n. length n.names < 2 ^ 32) }
     ensures firsts { IfOk result (λ n. n.firsts.items ≡ map (first_node (net_in plan.now)) (range_with_len 0 (suc (graph_in (net_in plan.now)).nodes))) }
@@ -82,21 +84,22 @@ fn numbered_nodes<const W: usize>(alloc: Global, plan: &Plan<W>) -> Result<Numbe
     firsts.push(count)?;
     for piece in 0..plan.flow.pieces() {
         push_nodes(&mut names, plan, piece)?;
-        count = count_of(&names)?;
+        count = count_of(plan, piece, &names);
         firsts.push(count)?;
     }
     Ok(NumberedNodes { names, firsts })
 }
 
-/// How many nodes there are, unless they can't be numbered.
-fn count_of(names: &NameList) -> Result<u32, NoMemory>
-    ensures { IfOk result (λ count. count ≡ length names.now) }
+/// How many nodes the pieces up to this one have.
+fn count_of<const W: usize>(plan: &Plan<W>, piece: u32, names: &NameList) -> u32
+    requires execs { HasExecs (net_in plan.now) }
+    requires piece { piece < (graph_in (net_in plan.now)).nodes }
+    requires names { names.now ≡ nodes_below (net_in plan.now) (piece + 1) }
+    ensures count { result ≡ length names.now }
+    ensures few { length names.now < 2 ^ 32 }
 {
-    if names.len() <= u32::MAX as usize {
-        Ok(names.len() as u32)
-    } else {
-        Err(NoMemory)
-    }
+    pieces_are_few();
+    names.len() as u32
 }
 
 /// Appends the nodes of a piece.

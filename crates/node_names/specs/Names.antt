@@ -1,5 +1,5 @@
 -- How the names are kept. No public clause cites this module.
-use Rattle.std.specs.Prelude.{◌/◌, ◌%◌, ℕ, List, map}
+use Rattle.std.specs.Prelude.{◌/◌, ◌%◌, ◌++◌, ℕ, List, map}
 use Rattle.std.proofs.Common.{zero, suc}
 use Rattle.firing.specs.declared.system.NodeName.{NodeName}
 use Rattle.firing.specs.declared.system.NodeName.TheVariants.{Act, Merge, Op, Switch}
@@ -18,4 +18,4 @@ abbrev pub name_told : Code → NodeName
 name_told code = name_by (code.turn % 4) code.piece (code.turn / 4)
 
 abbrev pub names_of : Inside → List NodeName
-names_of d = map name_told d.codes.items
+names_of d = map name_told d.codes.items ++ d.long.items

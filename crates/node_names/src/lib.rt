@@ -1,4 +1,4 @@
-//! Lists of the names of nodes, of four bytes each.
+//! Lists of the names of nodes, of four bytes each where their numbers are not large.
 #![tactic(auto)]
 
 mod names;

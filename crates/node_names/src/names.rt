@@ -1,4 +1,4 @@
-//! The names, each in a code of four bytes.
+//! The names, nearly all in codes of four bytes.
 
 ghost use Rattle.std.specs.Prelude.{◌≡◌, ◌<◌, [], ◌∷◌, ◌++◌, Some, length, slice_get, IfSome, OnOk};
 ghost use Rattle.firing.specs.declared.system.NodeName.TheVariants.{Act, Merge, Op, Switch};
@@ -20,6 +20,8 @@ struct Code {
 #[derive(Drop)]
 pub struct NameList {
     codes: Vec<Code>,
+    /// The names from the first one on whose numbers are too great for a code.
+    long: Vec<NodeName>,
 }
 
 impl Model for NameList {
@@ -39,6 +41,7 @@ impl NameList {
     {
         NameList {
             codes: Vec::new(alloc),
+            long: Vec::new(alloc),
         }
     }
 
@@ -46,7 +49,7 @@ impl NameList {
     pub fn len(&self) -> usize
         ensures { result ≡ length self.now }
     {
-        self.codes.len()
+        self.codes.len() + self.long.len()
     }
 
     /// The name at a place, counted from 0.
@@ -55,18 +58,22 @@ impl NameList {
         requires { k < length self.now }
         ensures { slice_get self.now k ≡ Some result }
     {
-        name_told(self.codes[k])
+        if k < self.codes.len() {
+            name_told(self.codes[k])
+        } else {
+            self.long[k - self.codes.len()]
+        }
     }
 
-    /// Puts a name after the others. A piece with a number of 2^16 or more is allocation failure, and so is an operation or a line with one
-    /// of 2^14 or more.
+    /// Puts a name after the others. It takes four bytes, or twelve from the first one on that has a piece of 2^16 or more, or an
+    /// operation or a line of 2^14 or more. Errors: memory runs out.
     pub fn push(&mut self, name: NodeName) -> Result<(), NoMemory>
         ensures { OnOk result (self.new ≡ self.old ++ name ∷ []) }
     {
-        let Some(code) = code_of(name) else {
-            return Err(NoMemory);
-        };
-        self.codes.push(code)?;
+        match code_of(name) {
+            Some(code) if self.long.is_empty() => self.codes.push(code)?,
+            _ => self.long.push(name)?,
+        }
         Ok(())
     }
 }

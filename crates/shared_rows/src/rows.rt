@@ -9,7 +9,7 @@ use std::marker::Model;
 /// How many columns a block has.
 const COLUMNS: u32 = 16;
 
-/// Rows of numbers, all of one width. A row that is a copy of another takes four bytes for each 16 columns, and 64 bytes for each 16
+/// Rows of numbers, all of one width. A row that is a copy of another takes eight bytes for each 16 columns, and 64 bytes for each 16
 /// columns in which a number of either is written after that. Contracts see a `Table`.
 #[derive(Drop)]
 pub struct SharedRows {
@@ -21,7 +21,7 @@ pub struct SharedRows {
     /// Numbers that stand next to one another in rows. The last block of a row has more than the row.
     pool: Vec<[u32; 16]>,
     /// For each row in turn, the numbers of its blocks.
-    numbers: Vec<u32>,
+    numbers: Vec<usize>,
     /// From this number on, each block stands in one place at most.
     own: usize,
 }
@@ -94,7 +94,7 @@ impl SharedRows {
         ensures within { column < length (row_at self.now row) }
     {
         let block = self.numbers[place(self.blocks, row, column)];
-        self.pool[block as usize][(column % COLUMNS) as usize]
+        self.pool[block][(column % COLUMNS) as usize]
     }
 
     /// Puts a row after the others that has this number in each column. Where there is no memory for it, the table is as before.
@@ -134,7 +134,7 @@ impl SharedRows {
     {
         let i = place(self.blocks, row, column);
         let block = own_block(&mut self.pool, &mut self.numbers, i, self.own)?;
-        self.pool[block as usize][(column % COLUMNS) as usize] = number;
+        self.pool[block][(column % COLUMNS) as usize] = number;
         Ok(())
     }
 }
@@ -148,15 +148,12 @@ fn place(blocks: u32, row: usize, column: u32) -> usize
     row * blocks as usize + (column / COLUMNS) as usize
 }
 
-/// Puts a block after the others. The result is its number. More blocks than can be numbered are allocation failure.
-fn push_block(pool: &mut Vec<[u32; 16]>, block: [u32; 16]) -> Result<u32, NoMemory>
+/// Puts a block after the others. The result is its number.
+fn push_block(pool: &mut Vec<[u32; 16]>, block: [u32; 16]) -> Result<usize, NoMemory>
     ensures ok { IfOk result (λ b. (b ≡ length pool.old.items) × (pool.new.items ≡ pool.old.items ++ block ∷ [])) }
     ensures err { OnErr result (pool.new.items ≡ pool.old.items) }
 {
-    if pool.len() > u32::MAX as usize {
-        return Err(NoMemory);
-    }
-    let number = pool.len() as u32;
+    let number = pool.len();
     pool.push(block)?;
     Ok(number)
 }
@@ -164,10 +161,10 @@ fn push_block(pool: &mut Vec<[u32; 16]>, block: [u32; 16]) -> Result<u32, NoMemo
 /// The number of the block at the place, after a copy is put there where it may stand in other places too.
 fn own_block(
     pool: &mut Vec<[u32; 16]>,
-    numbers: &mut Vec<u32>,
+    numbers: &mut Vec<usize>,
     i: usize,
     own: usize,
-) -> Result<u32, NoMemory>
+) -> Result<usize, NoMemory>
     requires kept { AreKept pool.old.items numbers.old.items own }
     requires place { i < length numbers.old.items }
     ensures kept { AreKept pool.new.items numbers.new.items own }
@@ -175,10 +172,10 @@ fn own_block(
     ensures own { IfOk result (λ b. (b ≡ slice_index numbers.new.items i) × (own ≤ b)) }
 {
     let block = numbers[i];
-    if block as usize >= own {
+    if block >= own {
         return Ok(block);
     }
-    let copied = pool[block as usize];
+    let copied = pool[block];
     let copy = push_block(pool, copied)?;
     numbers[i] = copy;
     Ok(copy)

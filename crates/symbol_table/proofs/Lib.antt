@@ -1,1 +1,2 @@
+mod FewNames
 pub mod NameEntries

@@ -1,6 +1,7 @@
-ghost use Rattle.std.specs.Prelude.{◌≡◌, ◌<◌, ◌++◌, [], ◌∷◌, length, false, slice_get, IfOk, IfSome, OnOk, bytes_eq};
+ghost use Rattle.std.specs.Prelude.{◌≡◌, ◌<◌, ◌++◌, [], ◌∷◌, length, false, true, slice_get, IfOk, IfSome, OnOk, bytes_eq};
 ghost use Rattle.std.specs.List.{list_any};
 ghost use Rattle.f77_tree.specs.Declarations.{index_of};
+ghost use Rattle.f77_tree.specs.Name.{is_name};
 ghost use Rattle.f77_tree.specs.Value.{kind_of, dims_of};
 ghost use Rattle.symbol_table.specs.NameTable.{info_of};
 
@@ -25,8 +26,10 @@ pub struct Names {
 }
 
 impl Model for Names {
-    ghost use Rattle.std.specs.Prelude.{◌<◌, ◌^◌, List, map};
-    ghost use Rattle.indexmap.specs.IndexMap.{index_map_len};
+    ghost use Rattle.std.specs.Prelude.{◌≡◌, ◌<◌, ◌^◌, List, bytes_eq, map, true};
+    ghost use Rattle.std.specs.List.{list_all};
+    ghost use Rattle.indexmap.specs.IndexMap.{IsUnique, index_map_len, keys};
+    ghost use Rattle.f77_tree.specs.Name.{is_name};
     ghost use Rattle.f77_tree.specs.declared.programs.NameInfo.{NameInfo};
     ghost use Rattle.symbol_table.specs.NameTable.{info_of};
 
@@ -34,7 +37,7 @@ impl Model for Names {
 
     ghost view = { λ n. map info_of n.table.entries };
 
-    ghost invariant = { λ n. index_map_len n.table < 2 ^ 32 };
+    ghost invariant = { λ n. IsUnique bytes_eq n.table × (list_all is_name (keys n.table) ≡ true) × (index_map_len n.table < 2 ^ 32) };
 }
 
 impl Names {
@@ -113,17 +116,22 @@ impl Names {
         self.table.contains_key(name)
     }
 
-    /// Adds a name that isn't in the table at its end. A table with as many names as there are indices takes no more.
+    /// Adds a name that isn't in the table at its end.
     pub fn add(&mut self, name: Name, symbol: Symbol) -> Result<(), NoMemory>
         requires { list_any (λ info. bytes_eq name info.name) self.old ≡ false }
         ensures { OnOk result (self.new ≡ self.old ++ info_of (name, symbol) ∷ []) }
     {
-        if self.len() == u32::MAX {
-            return Err(NoMemory);
-        }
+        is_symbolic(&name);
         self.table.insert(name, symbol)?;
         Ok(())
     }
+}
+
+// What the type of a name says of it.
+fn is_symbolic(name: &Name)
+    ensures { is_name name.now ≡ true }
+{
+    name.len();
 }
 
 // A name's line in the table.

@@ -1,6 +1,6 @@
 //! A new net, before any firing.
 
-ghost use Rattle.std.specs.Prelude.{◌≡◌, [], Some, length, IfOk};
+ghost use Rattle.std.specs.Prelude.{◌≡◌, ◌≤◌, [], Some, length, IfOk};
 ghost use Rattle.class_set.specs.Members.{IsWidth};
 ghost use Rattle.cfg_build.specs.Flow.{flow as flow_graph};
 ghost use Rattle.dep_routing.specs.Touch.{touches_in};
@@ -37,6 +37,7 @@ impl<'a, const W: usize> Net<'a, W> {
         requires width { IsWidth W }
         requires parts { AreParts p.now f.now (touches_in touch.now) l.now }
         requires sets { length touch.now ≡ (flow_graph p.now.execs).graph.nodes }
+        requires few { l.now.lines ≤ 1024 }
         ensures net { IfOk result (λ n. net_of n ≡ net_with p.now input.now.items (touches_in touch.now) l.now) }
         ensures marking { IfOk result (λ n. tokens_of n ≡ first_tokens (net_of n)) }
         ensures place { IfOk result (λ n. n.control ≡ Some (first_control_of (net_of n))) }

@@ -3,6 +3,7 @@ use Rattle.f77_tree.specs.declared.statements.Labelled.{Labelled}
 use Rattle.f77_subs.specs.declared.unit_table.UnitTable.{UnitTable}
 use Rattle.f77_subs.specs.LabelCounts.{AreCounted, count_at}
 use Rattle.f77_subs.specs.NamedTables.{AreTablesOf}
+use Rattle.f77_subs.proofs.WholeLists.{few-whole}
 use Rattle.f77_subs.proofs.whole_list.whole_list.Goals as goal
 
 pub invariant_of-units : goal.invariant_of-units
@@ -29,3 +30,6 @@ put_whole-requires-clause-tables c =
         fit = c.requires.fit.fit;
       };
     }
+
+pub in_sequence-requires : goal.in_sequence-requires
+in_sequence-requires c = record { few = few-whole c.args.us.now c.in_ok-list.list.items c.requires.few c.in_ok-list.ensures }

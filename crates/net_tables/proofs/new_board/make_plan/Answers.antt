@@ -20,6 +20,7 @@ invariant_of-result g c =
       sets = c.requires.sets ∙ ap (λ (f : FlowGraph). f.graph.nodes) (sym own);
       pieces = ap (λ (f : FlowGraph). length f.pieces) own ∙ shape.count ∙ ap (λ (f : FlowGraph). f.graph.nodes) (sym own);
       two_edges = subst (λ (f : FlowGraph). 1 < edge_count f.graph) (sym own) shape.two_edges;
+      few_lines = c.requires.few;
       wires = parts.own_routing.edges ∙ ap (λ (f : FlowGraph). edge_count f.graph) (sym own);
       led = subst (λ (f : FlowGraph). (line edge : ℕ) → line < c.args.l.now.lines → edge < edge_count f.graph → next_at c.args.l.now line edge < edge_count f.graph) (sym own)
           (c.parts_lead_lines.ensures p c.args.f.now (touches_in c.args.touch.now) c.args.l.now parts);

@@ -2,6 +2,7 @@ use Rattle.std.proofs.Common.{◌≡◌, ℕ, Bool, filter, length, ap, subst, �
 use Rattle.std.specs.List.{range_with_len}
 use Rattle.f77_subs.specs.Names.{used_names, y_entities}
 use Rattle.f77_subs.specs.NewNames.{AreFree, is_free_of}
+use Rattle.f77_subs.proofs.FewPlaces.{passing-few}
 use Rattle.f77_subs.proofs.FreeTexts.{free-names}
 use Rattle.f77_subs.proofs.GreatNames.{enough-small, same-free}
 use Rattle.f77_subs.proofs.new_names.NewNames.of.Goals as goal
@@ -21,8 +22,12 @@ invariant_of-result c =
     let text = c.args.text.now in
     let us = text.us.now in
     let many : c.len.result ≡ length (y_entities us) = c.len.ensures ∙ ap length text.all_own in
+    let few = enough-small (used_names us) c.requires.named.short (length (y_entities us)) c.requires.small in
+    let own = c.in_ok-names.ensures.as_many in
+    let most = passing-few (is_free_of (used_names us)) 1 99999 in
     record {
       as_many = c.in_ok-names.ensures.as_many ∙ many;
+      few = omega (arith, own, many, few, most);
       named = c.requires.named;
       all_named = free-names us c.in_ok-used.used c.in_ok-names.names.items c.in_ok-used.ensures (subst (λ (n : ℕ). AreFree c.in_ok-used.used n c.in_ok-names.names.items) many c.in_ok-names.ensures);
     }

@@ -9,4 +9,4 @@ pub loop-i-preserved : goal.loop-i-preserved
 loop-i-preserved c =
     let us = c.args.self.now.new.now.text.now.us.now in
     let there : slice_get (blocks us) c.loop-i.i ≡ Some c.at.result.now = ap (λ (bs : List (Option (List ℕ))). slice_get bs c.loop-i.i) (sym c.args.self.now.all_blocks) ∙ c.at.ensures in
-    kept-more (common_of us c.args.self.now.line) (is_put_in us) (blocks us) c.loop-i.i c.at.result.now c.args.out.now c.loop-i.out c.put_common.new.out there c.loop-i.invariant c.in_ok-put_common.ensures
+    kept-more (common_of us c.args.self.now.line) (is_put_in us) (blocks us) c.loop-i.i c.at.result.now c.args.out.now.items c.loop-i.out.items c.put_common.new.out.items there c.loop-i.invariant c.in_ok-put_common.ensures

@@ -21,4 +21,4 @@ pub loop-i-preserved : goal.loop-i-preserved
 loop-i-preserved c =
     let us = c.args.self.now.new.now.text.now.us.now in
     let there : slice_get (y_entities us) c.loop-i.i ≡ Some c.at.result.now = ap (λ (es : List Entity). slice_get es c.loop-i.i) (sym c.args.self.now.new.now.text.now.all_own) ∙ c.at.ensures in
-    kept-more (type_of us c.args.self.now.line) (is_running us) (y_entities us) c.loop-i.i c.at.result.now c.args.out.now c.loop-i.out c.put_type.new.out there c.loop-i.invariant c.in_ok-put_type.ensures
+    kept-more (type_of us c.args.self.now.line) (is_running us) (y_entities us) c.loop-i.i c.at.result.now c.args.out.now.items c.loop-i.out.items c.put_type.new.out.items there c.loop-i.invariant c.in_ok-put_type.ensures

@@ -1,10 +1,13 @@
-use Rattle.std.proofs.Common.{◌+◌, ℕ, List, Option, Some, if◌then◌else◌, ap, ◌∙◌}
+use Rattle.std.proofs.Common.{◌+◌, ℕ, List, Option, Some, if◌then◌else◌, ap, ◌∙◌, arith}
 use Rattle.indexmap.specs.IndexMap.{get}
 use Rattle.f77_tree.specs.Places.{same_block}
 use Rattle.f77_subs.specs.Entities.{InBlock}
 use Rattle.f77_subs.specs.Names.{same_entity}
-use Rattle.f77_subs.proofs.CommonPlaces.{kept-more}
+use Rattle.f77_subs.proofs.CommonPlaces.{kept-more, place-small}
 use Rattle.f77_subs.proofs.unit_blocks.UnitBlocks.note.Goals as goal
+
+pub overflow_add-place : goal.overflow_add-place
+overflow_add-place c = let small = place-small c.args.self.now c.args.block.now c.requires in let place = c.size-place.ensures in omega (arith, small, place)
 
 pub returns : goal.returns
 returns c = λ common are.

@@ -1,11 +1,16 @@
 use Rattle.std.proofs.Common.{◌++◌, List, take, sym, subst}
 use Rattle.std.proofs.lemmas.List.{append-nil}
 use Rattle.f77_subs.specs.UnitBlocks.{AreKept, InCommon, declared_by}
-use Rattle.f77_subs.proofs.CommonPlaces.{part-more}
+use Rattle.f77_subs.proofs.CommonPlaces.{part-more, room-for-one}
 use Rattle.f77_subs.proofs.unit_blocks.UnitBlocks.note_decls.Goals as goal
 
 pub loop-decl-init : goal.loop-decl-init
 loop-decl-init c = λ common are. subst (λ (cs : List InCommon). AreKept cs c.args.self.now) (sym (append-nil common)) are
+
+pub note-requires : goal.note-requires
+note-requires c =
+    let room = c.requires in
+    room-for-one c.args.block.now c.args.decls.now c.loop-decl.decl-index c.args.self.now c.loop-decl.self room c.loop-decl-test.true (c.loop-decl.invariant room.common room.are)
 
 pub loop-decl-preserved : goal.loop-decl-preserved
 loop-decl-preserved c = λ common are.

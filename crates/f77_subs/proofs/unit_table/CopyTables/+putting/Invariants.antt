@@ -19,5 +19,5 @@ decreases-put_call l = 4 * l.depth + 1
 abbrev pub invariant-put_pieces-loop-s : goal.invariant-put_pieces-loop-s
 invariant-put_pieces-loop-s l = record {
   labels : l.stood + labels_in l.self l.k (drop l.s-index l.stmts) ≡ l.before + labels_in l.self l.k l.stmts;
-  put : l.out ++ pieces_of l.self l.depth l.k (changes_of l.copy) l.stood (drop l.s-index l.stmts) ≡ l.initial.out ++ pieces_of l.self l.depth l.k (changes_of l.copy) l.before l.stmts;
+  put : l.out.items ++ pieces_of l.self l.depth l.k (changes_of l.copy) l.stood (drop l.s-index l.stmts) ≡ l.initial.out.items ++ pieces_of l.self l.depth l.k (changes_of l.copy) l.before l.stmts;
 }

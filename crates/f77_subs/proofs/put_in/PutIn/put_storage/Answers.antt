@@ -1,14 +1,13 @@
 use Rattle.std.proofs.Common.{◌<◌, ◌++◌, ℕ, List, inl, inr, flat_map, length, refl, sym, ap, ◌∙◌, arith}
 use Rattle.std.proofs.lemmas.List.{append-nil}
 use Rattle.std.specs.Prelude.{slice_index_or, false}
-use Rattle.f77_subs.specs.Expansion.{datas}
-use Rattle.f77_subs.specs.Units.{unit_at}
+use Rattle.f77_subs.specs.PutIn.{unit_storage}
 use Rattle.f77_subs.proofs.ManyBlocks.{run-all}
 use Rattle.f77_subs.proofs.PutLists.{run-put}
-use Rattle.f77_subs.proofs.put_in.PutIn.put_datas.Goals as goal
+use Rattle.f77_subs.proofs.put_in.PutIn.put_storage.Goals as goal
 
 pub loop-k-init : goal.loop-k-init
-loop-k-init c = record { some = omega arith; most = inr refl; put = sym (append-nil c.args.out.now) }
+loop-k-init c = record { some = omega arith; most = inr refl; put = sym (append-nil c.args.out.now.items) }
 
 pub loop-k-preserved : goal.loop-k-preserved
 loop-k-preserved c =
@@ -19,11 +18,11 @@ loop-k-preserved c =
     record {
       some = omega (arith, some);
       most = inl (omega (arith, inside));
-      put = run-put us (λ j. flat_map (datas us j) (unit_at us j)) k (slice_index_or c.args.self.now.runs.now k false) c.args.out.now c.loop-k.out c.put_datas_if.new.out some (sym (c.args.self.now.told k inside)) c.loop-k.invariant.put c.in_ok-put_datas_if.ensures;
+      put = run-put us (unit_storage c.args.kind us) k (slice_index_or c.args.self.now.runs.now k false) c.args.out.now.items c.loop-k.out.items c.put_storage_if.new.out.items some (sym (c.args.self.now.told k inside)) c.loop-k.invariant.put c.in_ok-put_storage_if.ensures;
     }
 
 pub returns : goal.returns
 returns c =
     let us = c.args.self.now.new.now.text.now.us.now in
     c.loop-k.invariant.put
-    ∙ ap (λ (ks : List ℕ). c.args.out.now ++ flat_map (λ j. flat_map (datas us j) (unit_at us j)) ks) (run-all us c.loop-k.k c.loop-k.invariant.some (omega arith) c.loop-k.invariant.most)
+    ∙ ap (λ (ks : List ℕ). c.args.out.now.items ++ flat_map (unit_storage c.args.kind us) ks) (run-all us c.loop-k.k c.loop-k.invariant.some (omega arith) c.loop-k.invariant.most)
