@@ -12,8 +12,8 @@ use Rattle.firing.specs.declared.system.NodeName.TheVariants.{Act, Merge, Switch
 use Rattle.op_board.specs.Operations as board
 use Rattle.op_board.specs.OperationNets.{OperationNet, first_operation, needed, operation_at}
 use Rattle.operation_lists.specs.declared.operations.Operand.{Operand}
-use Rattle.op_net.specs.Telling.{IsOperation, node_operand, node_operands, number_of, operation_name, piece_of}
-use Rattle.op_net.specs.declared.telling.OpName.{OpName}
+use Rattle.operation_tables.specs.Telling.{IsOperation, node_operand, node_operands, number_of, operation_name, piece_of}
+use Rattle.operation_tables.specs.declared.telling.OpName.{OpName}
 use Rattle.graph_texts.specs.GivenText.{given_text}
 use Rattle.graph_texts.specs.GraphText.{has_operands, numbers_text, operand_text, operands_line, operands_text, value_text}
 use Rattle.graph_texts.specs.OperationNames.{op_name, work_name}

@@ -3,9 +3,9 @@ use Rattle.std.specs.Prelude.{ℕ, List, codes}
 use Rattle.op_table.specs.declared.Op.{Op}
 use Rattle.op_table.specs.declared.Op.TheVariants as op
 use Rattle.op_board.specs.Operations as board
-use Rattle.op_net.specs.declared.telling.OpName.{OpName}
-use Rattle.op_net.specs.declared.telling.OpName.TheVariants as name
-use Rattle.op_net.specs.Telling.{operation_name}
+use Rattle.operation_tables.specs.declared.telling.OpName.{OpName}
+use Rattle.operation_tables.specs.declared.telling.OpName.TheVariants as name
+use Rattle.operation_tables.specs.Telling.{operation_name}
 
 abbrev pub operator_name : Op → List ℕ
 operator_name op.Add = codes "ADD"

@@ -9,9 +9,9 @@ ghost use Rattle.df_io.specs.Faults.{Rose};
 ghost use Rattle.df_io.specs.TextBuffer.{IsWrittenBut};
 ghost use Rattle.df_io.specs.Write.{AppendsPrefix};
 ghost use Rattle.op_board.specs.OperationNets.{operation_node};
-ghost use Rattle.op_net.specs.GraphView.{operations_of};
-ghost use Rattle.op_net.specs.Telling.{IsOperation};
-ghost use Rattle.op_net.specs.Waits.{node_total};
+ghost use Rattle.operation_tables.specs.GraphView.{operations_of};
+ghost use Rattle.operation_tables.specs.Telling.{IsOperation};
+ghost use Rattle.operation_tables.specs.Waits.{node_total};
 ghost use Rattle.graph_texts.specs.Below.{IsLastBelow, IsNextBelow};
 ghost use Rattle.graph_texts.specs.GivenText.{given_text};
 ghost use Rattle.graph_texts.specs.GraphText.{has_operands as has_operands_in, node_line, node_lines, node_text, numbers_text, operands_text, value_lines, value_text};
@@ -22,7 +22,8 @@ use alias_classes::CLASS_WORDS;
 use class_set::ClassSet;
 use df_io::{Sink, TextBuffer, WriteFault};
 use firing::NodeName;
-use op_net::{OpGraph, Operand};
+use operation_lists::Operand;
+use operation_tables::OpGraph;
 
 /// Appends the nodes of a net with so many lines: each with its name, and an operation with what it does and the lines that it needs.
 pub fn tell_nodes<K: Sink>(

@@ -11,7 +11,7 @@ ghost use Rattle.f77_tree.specs.WellFormed.{IsWellFormed};
 ghost use Rattle.dep_routing.specs.Touch.{touches_in};
 ghost use Rattle.flow_analysis.specs.Analysis.{IsRangeAnalysisOf};
 ghost use Rattle.net_board.specs.NetParts.{net_with};
-ghost use Rattle.op_net.specs.GraphView.{operations_of};
+ghost use Rattle.operation_tables.specs.GraphView.{operations_of};
 ghost use Rattle.graph_texts.specs.EdgeTables.{AreTablesOf};
 ghost use Rattle.graph_texts.specs.GraphText.{graph_text};
 ghost use Rattle.graph_texts.specs.NameSets.{AreNameSets};
@@ -25,7 +25,7 @@ use class_set::ClassSet;
 use df_io::{Sink, TextBuffer, WriteFault};
 use f77_tree::Program;
 use flow_analysis::Analysis;
-use op_net::OpGraph;
+use operation_tables::OpGraph;
 
 /// Writes the text of the net of operations of a program, from what was found of it, through a buffer in which nothing is.
 pub fn write_graph<K: Sink>(

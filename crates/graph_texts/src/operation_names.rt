@@ -3,8 +3,8 @@
 ghost use Rattle.std.specs.Prelude.{◌≡◌};
 ghost use Rattle.graph_texts.specs.OperationNames.{op_name, operator_name};
 
-use op_net::OpName;
 use op_table::Op;
+use operation_tables::OpName;
 
 /// What an operation does, as it is written.
 pub fn name_of(name: OpName) -> &'static str

@@ -17,17 +17,17 @@ use Rattle.op_net.specs.FiringChanges.{worked_on}
 use Rattle.operation_effects.specs.declared.performing.Did.{Did}
 use Rattle.operation_effects.specs.declared.performing.Did.TheVariants as did
 use Rattle.operation_effects.specs.Done.{told}
-use Rattle.op_net.specs.declared.places.Places.{Places}
-use Rattle.op_net.specs.declared.telling.OpName.{OpName}
-use Rattle.op_net.specs.declared.telling.OpName.TheVariants as name
-use Rattle.op_net.specs.PlacesView.{IsCounted, value_put}
-use Rattle.op_net.specs.Telling.{operation_name}
-use Rattle.op_net.specs.declared.rows.Row.{Row}
-use Rattle.op_net.specs.OperationRows.{IsRow}
-use Rattle.op_net.specs.RowWaits.{is_there}
-use Rattle.op_net.specs.Waits.{failing, one_if}
-use Rattle.op_net.proofs.NodeNames.{IsOperationAt}
-use Rattle.op_net.proofs.RowWaits.{operands_wait}
+use Rattle.operation_places.specs.declared.places.Places.{Places}
+use Rattle.operation_tables.specs.declared.telling.OpName.{OpName}
+use Rattle.operation_tables.specs.declared.telling.OpName.TheVariants as name
+use Rattle.operation_places.specs.PlacesView.{IsCounted, value_put}
+use Rattle.operation_tables.specs.Telling.{operation_name}
+use Rattle.operation_tables.specs.declared.rows.Row.{Row}
+use Rattle.operation_tables.specs.OperationRows.{IsRow}
+use Rattle.operation_places.specs.RowWaits.{is_there}
+use Rattle.operation_tables.specs.Waits.{failing, one_if}
+use Rattle.operation_tables.proofs.NodeNames.{IsOperationAt}
+use Rattle.operation_places.proofs.RowWaits.{operands_wait}
 
 -- ---- what a load does
 
@@ -119,7 +119,7 @@ stays_uncounted x s t off is counted counts leads = record {
   counts = λ on. never on;
   marks = λ on. never on;
   none = λ still. counts ∙ is.none off;
-  leads = subst (λ items. All (Rattle.op_net.specs.Leads.IsLead x) items) (sym leads) is.leads;
+  leads = subst (λ items. All (Rattle.operation_places.specs.Leads.IsLead x) items) (sym leads) is.leads;
 }
   where
     never : {P : Type 0} → t.counted ≡ true → P

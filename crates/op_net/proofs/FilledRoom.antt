@@ -11,11 +11,11 @@ use Rattle.op_board.specs.OperationTokens.{OperationTokens, are_clear}
 use Rattle.op_net.specs.PlaceSteps.{edge_left}
 use Rattle.op_board.specs.Operations.{is_decision}
 use Rattle.op_board.proofs.PieceNodes.{acting_count}
-use Rattle.op_net.specs.StandingChanges.{room_filled}
-use Rattle.op_net.specs.Waits.{AreSwitchNodes, node_total}
-use Rattle.op_net.proofs.NodeNames.{acts_where}
-use Rattle.op_net.proofs.OperationRanges.{nodes_within}
-use Rattle.op_net.proofs.SwitchNodes.{decided_switches, decision_last, switch_count}
+use Rattle.operation_places.specs.StandingChanges.{room_filled}
+use Rattle.operation_tables.specs.Waits.{AreSwitchNodes, node_total}
+use Rattle.operation_tables.proofs.NodeNames.{acts_where}
+use Rattle.operation_tables.proofs.OperationRanges.{nodes_within}
+use Rattle.operation_tables.proofs.SwitchNodes.{decided_switches, decision_last, switch_count}
 
 all_left : (edge : ℕ) (m : OperationTokens) (places : List ℕ) → fold (edge_left edge) m places ≡ record m { tokens = record m.tokens { edges = with_all m.tokens.edges places (λ switch. Some edge) } }
 all_left edge m [] = refl

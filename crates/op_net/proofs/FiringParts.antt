@@ -20,7 +20,7 @@ use Rattle.op_board.specs.OperationNets.{OperationNet, first_operation, last_nee
 use Rattle.op_board.specs.OperationTokens.{OperationTokens, can_operate, fired_as, givers, has_room, are_clear, is_given, line_as, operand_in, operated, operated_on, operation_moves, passed_after, performed_at, replaced, stands_before, stopped_by, taken_values, text_written, value_at, value_of, zero_effect}
 use Rattle.op_board.proofs.OperandValues.{gives_none}
 use Rattle.op_net.specs.FiringChanges.{AnswersTrap, given_on, room_left, told_on, trapped_on, worked_on}
-use Rattle.op_net.specs.StandingChanges.{room_filled, values_taken}
+use Rattle.operation_places.specs.StandingChanges.{room_filled, values_taken}
 
 -- ---- an operation that is ready
 

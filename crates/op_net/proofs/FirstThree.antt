@@ -9,10 +9,10 @@ use Rattle.op_board.specs.OperationTokens.{OperationTokens, givers, is_given, op
 use Rattle.op_board.specs.Operations.{From, Known, Operand}
 use Rattle.operation_lists.specs.Seen.{operand_seen}
 use Rattle.operation_lists.specs.declared.operations.Operand as rust
-use Rattle.op_net.specs.OperationRows.{IsRow, first_three}
+use Rattle.operation_tables.specs.OperationRows.{IsRow, first_three}
 use Rattle.op_net.specs.PlaceSteps.{IsOwnOperand, operand_taken, values_for}
-use Rattle.op_net.specs.StandingChanges.{values_taken}
-use Rattle.op_net.specs.declared.rows.Row.{Row}
+use Rattle.operation_places.specs.StandingChanges.{values_taken}
+use Rattle.operation_tables.specs.declared.rows.Row.{Row}
 use Rattle.op_net.proofs.RowFacts.{row_few}
 use Rattle.op_net.proofs.TakenOperands.{once_taken, operands_taken, own_operand, still_given, still_read, values_next}
 

@@ -9,13 +9,13 @@ use Rattle.op_board.specs.OperationNets.{OperationNet, first_operation, is_last_
 use Rattle.op_board.specs.OperationTokens.{OperationTokens, passed_by, stands_before}
 use Rattle.op_board.proofs.NeededLines.{one_more, passing_more}
 use Rattle.net_board.specs.WokenNodes.{passing_below}
-use Rattle.op_net.specs.OperationRows.{IsHop, IsNextNeed, NextIs}
+use Rattle.operation_tables.specs.OperationRows.{IsHop, IsNextNeed, NextIs}
 use Rattle.op_net.specs.PlaceSteps.{line_moved}
-use Rattle.op_net.specs.PlacesView.{line_put}
-use Rattle.op_net.specs.PlanFacts.{PlanFacts}
-use Rattle.op_net.specs.Waits.{IsNodeBefore}
-use Rattle.op_net.specs.declared.hops.Hop.{Hop}
-use Rattle.op_net.proofs.NodesBefore.{operation_before}
+use Rattle.operation_places.specs.PlacesView.{line_put}
+use Rattle.operation_tables.specs.PlanFacts.{PlanFacts}
+use Rattle.operation_tables.specs.Waits.{IsNodeBefore}
+use Rattle.operation_tables.specs.declared.hops.Hop.{Hop}
+use Rattle.operation_tables.proofs.NodesBefore.{operation_before}
 
 -- no more numbers below one pass than there are
 passing_few : (test : ℕ → Bool) (n : ℕ) → passing_below test n ≤ n

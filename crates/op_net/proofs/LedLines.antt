@@ -13,9 +13,9 @@ use Rattle.net_board.specs.Tokens.{edge_of, is_before, led_from, left_for, switc
 use Rattle.net_board.specs.WokenNodes.{switch_number}
 use Rattle.op_board.specs.OperationNets.{OperationNet, operation_node}
 use Rattle.op_board.specs.OperationTokens.{OperationTokens, fired_as, line_as, merged_on, operation_moves, passed_by, ready_as, switched_on}
-use Rattle.op_net.specs.PlacesView.{edge_put, line_put}
-use Rattle.op_net.specs.Turns.{is_turning}
-use Rattle.op_net.specs.Waits.{goes_through, stands_at}
+use Rattle.operation_places.specs.PlacesView.{edge_put, line_put}
+use Rattle.operation_places.specs.Turns.{is_turning}
+use Rattle.operation_tables.specs.Waits.{goes_through, stands_at}
 
 module _ (x : OperationNet) (m : OperationTokens) (k piece line : ℕ) where
   -- ---- switches

@@ -3,10 +3,10 @@ use Rattle.std.proofs.Common.{◌≡◌, ◌+◌, ℕ, All, Vec, Global, subst, 
 use Rattle.std.proofs.Math.Logic.{∥∥₁_elim, ∥∥₁_map}
 use Rattle.std.proofs.Props.{props}
 use Rattle.op_board.specs.OperationNets.{OperationNet}
-use Rattle.op_net.specs.Leads.{IsLead}
-use Rattle.op_net.specs.declared.leads.Lead.{Lead}
-use Rattle.op_net.specs.declared.places.Places.{Places}
-use Rattle.op_net.specs.PlacesView.{IsAheadBy, IsCountedAhead, MakesUp}
+use Rattle.operation_places.specs.Leads.{IsLead}
+use Rattle.operation_places.specs.declared.leads.Lead.{Lead}
+use Rattle.operation_places.specs.declared.places.Places.{Places}
+use Rattle.operation_places.specs.PlacesView.{IsAheadBy, IsCountedAhead, MakesUp}
 
 -- of this much a change leaves so much
 abbrev pub LeavesAhead : OperationNet → (old new : Places) (k much left : ℕ) → Type 0

@@ -11,9 +11,9 @@ use Rattle.op_board.specs.OperationNets.{OperationNet, is_last_at, last_needed, 
 use Rattle.op_board.specs.OperationTokens.{OperationTokens, passed_after, passed_by, replaced, stands_before}
 use Rattle.op_board.proofs.NeededLines.{needed_has}
 use Rattle.op_net.specs.PlaceSteps.{line_dropped, line_moved}
-use Rattle.op_net.specs.PlacesView.{line_put}
-use Rattle.op_net.specs.StandingChanges.{lines_dropped, lines_moved}
-use Rattle.op_net.proofs.FoldedLists.{filter_twice, own_edge, replaced_alike}
+use Rattle.operation_places.specs.PlacesView.{line_put}
+use Rattle.operation_places.specs.StandingChanges.{lines_dropped, lines_moved}
+use Rattle.operation_places.proofs.FoldedLists.{filter_twice, own_edge, replaced_alike}
 
 all_dropped : (m : OperationTokens) (lines : List ℕ) → fold line_dropped m lines ≡ record m { tokens = record m.tokens { lines = with_all m.tokens.lines lines (λ line. None) }; passed = replaced m.passed lines (λ line. 0) }
 all_dropped m [] = refl

@@ -26,7 +26,7 @@ use Rattle.op_net.specs.FiringChanges.{remembered}
 use Rattle.op_net.specs.NetFirings.{HasFired, IsAsBefore}
 use Rattle.op_net.specs.NetView.{marking_of, net_of}
 use Rattle.op_net.specs.PieceEnds.{effect_told}
-use Rattle.op_net.specs.StandingChanges.{lines_led}
+use Rattle.operation_places.specs.StandingChanges.{lines_led}
 use Rattle.op_net.specs.StaysInStep.{StaysInStep}
 use Rattle.op_net.specs.StepLaws.{keeps_step, source_order}
 use Rattle.op_net.proofs.DueFirings.{AreDueFirings, GoesOnDue, IsDueFiring, can_go_on, first_firing, goes_on_due}

@@ -1,9 +1,8 @@
 -- The marking of a net of operations before any firing.
-use Rattle.std.proofs.Common.{ℤ, Bool, List, ◌≡◌, ◌≤◌, ◌⊎◌, ⊎_elim, inl, inr, ℕ, true, false, length, slice_get, Option, None, Some, refl, sym, ap, ◌∙◌, subst, arith}
+use Rattle.std.proofs.Common.{ℤ, Bool, List, ◌≡◌, ◌≤◌, ℕ, true, false, length, None, Some, sym, ap, ◌∙◌, subst, arith}
 use Rattle.std.proofs.lemmas.List.{length-map, length-replicate}
 use Rattle.std.proofs.lemmas.List.Elements.{All-weaker}
 use Rattle.std.proofs.lemmas.List.FromFn.{length-range_with_len}
-use Rattle.std.proofs.lemmas.Option.{slice_get_past}
 use Rattle.f77_tree.specs.declared.programs.Program.{Program}
 use Rattle.f77_tree.specs.Execution.{Memory}
 use Rattle.f77_tree.specs.Run.{first_memory}
@@ -13,29 +12,23 @@ use Rattle.firing.specs.SourceOrder.{IsSourceOrder}
 use Rattle.net_board.specs.declared.control.Control.{Control}
 use Rattle.net_board.specs.ControlCourse.{first_control}
 use Rattle.net_board.specs.NetParts.{net_with}
-use Rattle.net_board.specs.Nodes.{NetOf, all_lines, graph_in, nodes_of}
+use Rattle.net_board.specs.Nodes.{NetOf, all_lines, nodes_of}
 use Rattle.net_board.specs.TokenEdges.{edge_at}
 use Rattle.net_board.specs.Tokens.{led_from}
 use Rattle.op_board.specs.OperationCourse.{operation_course}
 use Rattle.op_board.specs.OperationLockstep.{IsInOperationLockstep}
-use Rattle.op_board.specs.OperationNets.{OperationNet, operation_count}
+use Rattle.op_board.specs.OperationNets.{OperationNet}
 use Rattle.op_board.specs.OperationTokens.{OperationTokens, first_operation_tokens, operation_moves}
 use Rattle.op_board.specs.SoundOperationNets.{OperationsCanCome}
 use Rattle.op_board.specs.WholePieces.{PassesWhole}
-use Rattle.op_net.specs.declared.leads.Lead.{Lead}
-use Rattle.op_net.specs.declared.places.Places.{Places}
-use Rattle.op_net.specs.declared.plan.OperationPlan.{OperationPlan}
-use Rattle.op_net.specs.declared.plan.PieceOperations.{PieceOperations}
-use Rattle.op_net.specs.FirstPlaces.{AreFirstPlaces}
-use Rattle.op_net.specs.Leads.{IsLead}
-use Rattle.op_net.specs.PieceView.{piece_needs}
-use Rattle.set_lists.proofs.Past.{test_past}
-use Rattle.op_net.specs.PlacesView.{IsCounted}
-use Rattle.op_net.specs.PlanView.{operations_in}
-use Rattle.op_net.specs.SoundPlaces.{ArePlaces}
+use Rattle.operation_places.specs.declared.leads.Lead.{Lead}
+use Rattle.operation_places.specs.declared.places.Places.{Places}
+use Rattle.operation_places.specs.FirstPlaces.{AreFirstPlaces}
+use Rattle.operation_places.specs.Leads.{IsLead}
+use Rattle.operation_places.specs.PlacesView.{IsCounted}
+use Rattle.operation_places.specs.SoundPlaces.{ArePlaces}
 use Rattle.op_net.specs.StaysInStep.{StaysInStep}
-use Rattle.op_net.specs.Waits.{node_total}
-use Rattle.op_net.proofs.PlannedCounts.{counted}
+use Rattle.operation_tables.specs.Waits.{node_total}
 
 module _ (x : OperationNet) (s : Places) (first : AreFirstPlaces x s) where
   pub own_places : OperationsCanCome x (first_operation_tokens x) → ArePlaces x s
@@ -82,22 +75,3 @@ module _ (x : OperationNet) (m : OperationTokens) (is : m ≡ first_operation_to
     ordered = ordered;
     passes = passes;
   }
-
-module _ {W : ℕ} (plan : OperationPlan W) where
-  -- no operation needs a line where there is no piece
-  pub outside_pieces : (piece i line : ℕ) → (graph_in (operations_in plan).net).nodes ≤ piece → (operations_in plan).needs piece i line ≡ false
-  outside_pieces piece i line past = ap (λ o. piece_needs o i line) (slice_get_past plan.pieces.items piece (omega (arith, past, plan.every_piece)))
-
-  cases : (o : Option (PieceOperations W)) → (o ≡ None) ⊎ ((p : PieceOperations W) × (o ≡ Some p))
-  cases None = inl refl
-  cases (Some p) = inr (p, refl)
-
-  -- and none that isn't there does
-  pub outside_operations : (piece i line : ℕ) → operation_count (operations_in plan) piece ≤ i → (operations_in plan).needs piece i line ≡ false
-  outside_operations piece i line past = ⊎_elim
-      (λ (none : slice_get plan.pieces.items piece ≡ None). ap (λ o. piece_needs o i line) none)
-      (λ (found : (p : PieceOperations W) × (slice_get plan.pieces.items piece ≡ Some p)).
-      let count = counted plan piece found.0 found.1 in
-      let needs = plan.own_needs piece found.0 found.1 in
-      ap (λ o. piece_needs o i line) found.1 ∙ test_past found.0.needs i line (omega (arith, past, count, needs)))
-      (cases (slice_get plan.pieces.items piece))

@@ -5,7 +5,7 @@ use Rattle.net_board.specs.declared.control.Control.{Control}
 use Rattle.op_board.specs.OperationCourse.{operation_course}
 use Rattle.op_board.specs.OperationNets.{OperationNet}
 use Rattle.op_board.specs.OperationTokens.{OperationTokens}
-use Rattle.op_net.specs.Steering.{LeadsBy}
+use Rattle.operation_places.specs.Steering.{LeadsBy}
 
 module _ {x1 x0 : OperationNet} (same : x1 ≡ x0) where
   pub place_told : (c1 c0 new : Option Control) (k edge : ℕ) → c1 ≡ c0 → ((m : OperationTokens) → LeadsBy x1 m k edge → new ≡ steered (operation_course x1) m c1 k) → (m : OperationTokens) → LeadsBy x0 m k edge → new ≡ steered (operation_course x0) m c0 k

@@ -3,9 +3,9 @@ use Rattle.std.proofs.Common.{◌≡◌, ◌≢◌, ◌∙◌, ℕ, Option, Some
 use Rattle.firing.specs.declared.system.NodeName.{NodeName}
 use Rattle.firing.specs.declared.system.NodeName.TheVariants.{Act, Merge, Op, Switch}
 use Rattle.op_board.specs.OperationNets.{OperationNet}
-use Rattle.op_net.specs.declared.rows.Row.{Row}
-use Rattle.op_net.specs.OperationRows.{IsRow}
-use Rattle.op_net.specs.OperationTables.{RowOfNode}
+use Rattle.operation_tables.specs.declared.rows.Row.{Row}
+use Rattle.operation_tables.specs.OperationRows.{IsRow}
+use Rattle.operation_tables.specs.OperationTables.{RowOfNode}
 use Rattle.op_net.proofs.RowReads.{row_number, row_piece}
 
 no_more : (row : Row) → {A : Type 0} → ◌≡◌ {A = Option Row} (Some row) None → A

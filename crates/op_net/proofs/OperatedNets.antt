@@ -21,16 +21,16 @@ use Rattle.op_board.specs.Operations.{Operation, gives_value, is_decision}
 use Rattle.operation_effects.specs.declared.performing.Did.{Did}
 use Rattle.operation_effects.specs.declared.performing.Did.TheVariants as did
 use Rattle.operation_effects.specs.Done.{told}
-use Rattle.op_net.specs.declared.places.Places.{Places}
+use Rattle.operation_places.specs.declared.places.Places.{Places}
 use Rattle.op_net.specs.FiringChanges.{given_on, remembered, stopped_on, told_on}
-use Rattle.op_net.specs.OperationRows.{room_of, waits_anew}
-use Rattle.op_net.specs.PlanFacts.{PlanFacts}
-use Rattle.op_net.specs.PlacesView.{IsAheadBy, IsCountedAhead, MakesUp, standing}
-use Rattle.op_net.specs.StandingChanges.{lines_dropped, values_taken}
-use Rattle.op_net.specs.Steering.{LeadsBy}
-use Rattle.op_net.specs.Waits.{node_total, one_if}
-use Rattle.op_net.proofs.ControlMoveLemmas.{operation_leads}
-use Rattle.op_net.proofs.NodeNames.{IsOperationAt, operation_at_node}
+use Rattle.operation_tables.specs.OperationRows.{room_of, waits_anew}
+use Rattle.operation_tables.specs.PlanFacts.{PlanFacts}
+use Rattle.operation_places.specs.PlacesView.{IsAheadBy, IsCountedAhead, MakesUp, standing}
+use Rattle.operation_places.specs.StandingChanges.{lines_dropped, values_taken}
+use Rattle.operation_places.specs.Steering.{LeadsBy}
+use Rattle.operation_tables.specs.Waits.{node_total, one_if}
+use Rattle.operation_places.proofs.ControlMoveLemmas.{operation_leads}
+use Rattle.operation_tables.proofs.NodeNames.{IsOperationAt, operation_at_node}
 use Rattle.op_net.proofs.FiringParts.{IsReadyOperation, args_same, gave_gives, gave_marking, gives_tell_nothing, new_line, ready_operation, same_at_trap, same_line, silent, taken_empty, tells_give_nothing, told_marking, trap_answered, trapped_gives, trapped_marking, wrote, wrote_marking}
 
 -- the places with this memory and this trap make this marking

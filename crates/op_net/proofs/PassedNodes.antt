@@ -8,14 +8,14 @@ use Rattle.firing.specs.declared.system.NodeName.TheVariants.{Act, Merge, Switch
 use Rattle.net_board.specs.Nodes.{graph_in, is_acting, kind_in}
 use Rattle.net_board.specs.Tokens.{leads_to}
 use Rattle.net_board.proofs.NodeNumbers.{among}
-use Rattle.op_net.specs.PlanFacts.{PlanFacts}
+use Rattle.operation_tables.specs.PlanFacts.{PlanFacts}
 use Rattle.op_board.specs.OperationNets.{OperationNet, first_operation, needing_before, operation_count, operation_node}
 use Rattle.op_board.proofs.FiringOperations.{both_ways}
 use Rattle.op_net.specs.ApartLoads.{needing}
-use Rattle.op_net.specs.Waits.{IsNodeBefore, goes_through, node_total, stands_at}
+use Rattle.operation_tables.specs.Waits.{IsNodeBefore, goes_through, node_total, stands_at}
 use Rattle.op_net.proofs.ApartNets.{IsPassing, passing_at}
-use Rattle.op_net.proofs.NodeNames.{IsMergeAt, IsOperationAt, IsSwitchAt, acts_where, merge_at_node, operation_at_node, switch_at_node}
-use Rattle.op_net.proofs.NodesBefore.{operation_before}
+use Rattle.operation_tables.proofs.NodeNames.{IsMergeAt, IsOperationAt, IsSwitchAt, acts_where, merge_at_node, operation_at_node, switch_at_node}
+use Rattle.operation_tables.proofs.NodesBefore.{operation_before}
 
 module _ (x : OperationNet) (facts : PlanFacts x) where
   -- the operation that the line has come to

@@ -16,13 +16,13 @@ use Rattle.operation_effects.specs.Tasks.{IsTaskOf}
 use Rattle.op_net.proofs.TaskPropositions.{result_prop}
 use Rattle.operation_lists.specs.Seen.{operand_seen}
 use Rattle.operation_lists.specs.declared.operations.Operand as rust
-use Rattle.op_net.specs.OperationRows.{IsRow}
+use Rattle.operation_tables.specs.OperationRows.{IsRow}
 use Rattle.op_net.specs.PieceValues.{performed_over, ran_from}
 use Rattle.op_net.specs.PlaceSteps.{IsOwnOperand}
-use Rattle.op_net.specs.declared.rows.Row.{Row}
+use Rattle.operation_tables.specs.declared.rows.Row.{Row}
 use Rattle.op_net.proofs.FiringParts.{giving}
-use Rattle.op_net.proofs.NodesAfter.{giver_before}
-use Rattle.op_net.proofs.PieceLines.{left_from}
+use Rattle.operation_tables.proofs.NodesAfter.{giver_before}
+use Rattle.operation_places.proofs.PieceLines.{left_from}
 use Rattle.op_net.proofs.RowFacts.{row_operands}
 use Rattle.op_net.proofs.WalkedRows as walked
 

@@ -11,12 +11,12 @@ use Rattle.net_tables.proofs.TokenLineLemmas.{led_below, with_all_below}
 use Rattle.op_board.specs.OperationNets.{OperationNet, is_last_at, last_needed, needed, operation_at}
 use Rattle.op_board.specs.OperationTokens.{OperationTokens, givers, passed_after}
 use Rattle.op_board.proofs.ReplacedItems.{length_replaced}
-use Rattle.op_net.specs.declared.lookups.OperationBoard.{OperationBoard}
-use Rattle.op_net.specs.declared.places.Places.{Places}
-use Rattle.op_net.specs.BoardView.{operation_net_on}
-use Rattle.op_net.specs.PlacesView.{KeepsCounts, edge_put, line_put, standing, value_put}
-use Rattle.op_net.specs.SoundPlaces.{ArePlaces}
-use Rattle.op_net.specs.StandingChanges.{lines_dropped, lines_moved, room_filled, values_taken}
+use Rattle.operation_tables.specs.declared.lookups.OperationBoard.{OperationBoard}
+use Rattle.operation_places.specs.declared.places.Places.{Places}
+use Rattle.operation_tables.specs.BoardView.{operation_net_on}
+use Rattle.operation_places.specs.PlacesView.{KeepsCounts, edge_put, line_put, standing, value_put}
+use Rattle.operation_places.specs.SoundPlaces.{ArePlaces}
+use Rattle.operation_places.specs.StandingChanges.{lines_dropped, lines_moved, room_filled, values_taken}
 
 -- ---- one that is replaced
 

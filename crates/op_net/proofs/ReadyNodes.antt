@@ -8,10 +8,10 @@ use Rattle.firing.specs.ReadySet.{has}
 use Rattle.op_board.specs.OperationNets.{OperationNet, operation_node}
 use Rattle.op_board.specs.OperationTokens.{OperationTokens, operation_moves}
 use Rattle.op_net.specs.declared.net.OpNet.{OpNet}
-use Rattle.op_net.specs.declared.places.Places.{Places}
+use Rattle.operation_places.specs.declared.places.Places.{Places}
 use Rattle.op_net.specs.NetView.{KeepsSet, marking_of, net_of}
-use Rattle.op_net.specs.PlacesView.{IsCounted, standing}
-use Rattle.op_net.specs.Waits.{awaits, node_total, one_if, waits}
+use Rattle.operation_places.specs.PlacesView.{IsCounted, standing}
+use Rattle.operation_tables.specs.Waits.{awaits, node_total, one_if, waits}
 use Rattle.op_net.proofs.WaitCounts.{ready_alike}
 
 -- a node that no other game leads waits for nothing else

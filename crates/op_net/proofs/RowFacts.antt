@@ -9,9 +9,9 @@ use Rattle.op_board.specs.OperationNets.{OperationNet, needed, operation_at}
 use Rattle.op_board.specs.Operations.{Operand, Known, From}
 use Rattle.operation_lists.specs.Seen.{operand_seen}
 use Rattle.operation_lists.specs.declared.operations.Operand as kept
-use Rattle.op_net.specs.OperationRows.{IsHop, IsRow, first_three}
-use Rattle.op_net.specs.declared.hops.Hop.{Hop}
-use Rattle.op_net.specs.declared.rows.Row.{Row}
+use Rattle.operation_tables.specs.OperationRows.{IsHop, IsRow, first_three}
+use Rattle.operation_tables.specs.declared.hops.Hop.{Hop}
+use Rattle.operation_tables.specs.declared.rows.Row.{Row}
 
 -- ---- operands as pairs, of which an equation has one proof
 

@@ -10,13 +10,13 @@ use Rattle.net_tables.proofs.LookupLemmas.{some_edge}
 use Rattle.net_tables.proofs.TableLemmas.{out_exists}
 use Rattle.op_board.specs.OperationNets.{OperationNet, first_operation, operation_at}
 use Rattle.op_board.specs.Operations.{gives_value, is_decision}
-use Rattle.op_net.specs.declared.lookups.OperationBoard.{OperationBoard}
-use Rattle.op_net.specs.declared.rows.Row.{Row}
-use Rattle.op_net.specs.BoardView.{operation_net_on}
-use Rattle.op_net.specs.OperationRows.{IsRow, IsTaker, short_count, waits_anew}
-use Rattle.op_net.specs.Waits.{IsNodeAfter, node_total}
-use Rattle.op_net.proofs.NodeNames.{operation_within}
-use Rattle.op_net.proofs.NodesAfter.{one_after}
+use Rattle.operation_tables.specs.declared.lookups.OperationBoard.{OperationBoard}
+use Rattle.operation_tables.specs.declared.rows.Row.{Row}
+use Rattle.operation_tables.specs.BoardView.{operation_net_on}
+use Rattle.operation_tables.specs.OperationRows.{IsRow, IsTaker, short_count, waits_anew}
+use Rattle.operation_tables.specs.Waits.{IsNodeAfter, node_total}
+use Rattle.operation_tables.proofs.NodeNames.{operation_within}
+use Rattle.operation_tables.proofs.NodesAfter.{one_after}
 
 -- there are more than three, or there are as many as are counted
 short_counts : (n : ℕ) → (short_count n ≡ 4) ⊎ ((n ≤ 3) × (short_count n ≡ n))

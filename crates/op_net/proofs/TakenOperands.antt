@@ -11,13 +11,13 @@ use Rattle.op_board.specs.OperationTokens.{OperationTokens, givers, is_given, op
 use Rattle.op_board.specs.Operations.{Operand, Known, From}
 use Rattle.op_board.proofs.OperationsApart.{operation_get}
 use Rattle.op_board.proofs.ValueTaking.{taken_once, takes_by_more, takes_one_same}
-use Rattle.op_net.specs.OperationRows.{IsTaker}
+use Rattle.operation_tables.specs.OperationRows.{IsTaker}
 use Rattle.op_net.specs.PlaceSteps.{IsOwnOperand, operand_taken, values_for}
-use Rattle.op_net.specs.PlacesView.{value_put}
-use Rattle.op_net.specs.StandingChanges.{values_taken}
-use Rattle.op_net.specs.Waits.{IsNodeAfter, node_total}
-use Rattle.op_net.proofs.NodeNames.{operation_within}
-use Rattle.op_net.proofs.NodesAfter.{giver_before, no_more, one_after, own_one}
+use Rattle.operation_places.specs.PlacesView.{value_put}
+use Rattle.operation_places.specs.StandingChanges.{values_taken}
+use Rattle.operation_tables.specs.Waits.{IsNodeAfter, node_total}
+use Rattle.operation_tables.proofs.NodeNames.{operation_within}
+use Rattle.operation_tables.proofs.NodesAfter.{giver_before, no_more, one_after, own_one}
 
 member_takes : (operands : List Operand) (number : ℕ) → Member operands (From number) → 0 < takes_by operands number
 member_takes [] number m = absurd m

@@ -12,8 +12,8 @@ use Rattle.net_board.specs.WokenNodes.{switch_number}
 use Rattle.op_board.specs.Operations.{Known, From, Operand, Work, is_decision}
 use Rattle.op_board.specs.OperationNets.{OperationNet, needed, operation_at}
 use Rattle.op_board.specs.OperationTokens.{OperationTokens, are_clear, has_room, is_given, ready_as, stands_before, value_at}
-use Rattle.op_net.specs.Waits.{failing, one_if, waits_as, waits_for_room}
-use Rattle.op_net.proofs.FailingLists.{failing_same}
+use Rattle.operation_tables.specs.Waits.{failing, one_if, waits_as, waits_for_room}
+use Rattle.operation_places.proofs.FailingLists.{failing_same}
 
 sum_zero : (a b : ℕ) → (a + b == 0) ≡ ((a == 0) && (b == 0))
 sum_zero a b = ⊎_elim

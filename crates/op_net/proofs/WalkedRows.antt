@@ -11,14 +11,14 @@ use Rattle.op_board.specs.Operations.{Operand}
 use Rattle.op_board.proofs.NeededLines.{needed_has}
 use Rattle.operation_lists.specs.Seen.{operand_seen}
 use Rattle.operation_lists.specs.declared.operations.Operand as rust
-use Rattle.op_net.specs.OperationRows.{IsHop, IsRow}
+use Rattle.operation_tables.specs.OperationRows.{IsHop, IsRow}
 use Rattle.op_net.specs.PlaceSteps.{IsOwnOperand, line_dropped, line_moved, operand_taken, values_for}
-use Rattle.op_net.specs.PlacesView.{IsAheadBy, MakesUp, line_put}
-use Rattle.op_net.specs.declared.hops.Hop.{Hop}
-use Rattle.op_net.specs.declared.places.Places.{Places}
-use Rattle.op_net.specs.declared.rows.Row.{Row}
+use Rattle.operation_places.specs.PlacesView.{IsAheadBy, MakesUp, line_put}
+use Rattle.operation_tables.specs.declared.hops.Hop.{Hop}
+use Rattle.operation_places.specs.declared.places.Places.{Places}
+use Rattle.operation_tables.specs.declared.rows.Row.{Row}
 use Rattle.op_net.proofs.MadeUp.{LeavesAhead, leaves_ahead, leaves_next}
-use Rattle.op_net.proofs.FoldedLists.{Member-left_at, first_passes, fold_next, left_at, map_next, not_left, rest_passes}
+use Rattle.operation_places.proofs.FoldedLists.{Member-left_at, first_passes, fold_next, left_at, map_next, not_left, rest_passes}
 use Rattle.op_net.proofs.MovedLines.{distinct_needed, moved_length, moved_passed, moved_stand, still_stand}
 use Rattle.op_net.proofs.TakenOperands.{own_operand, rest_given, rest_read, taken_length, values_next}
 

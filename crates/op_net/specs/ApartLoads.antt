@@ -7,11 +7,11 @@ use Rattle.op_board.specs.Operations.{Operand, Known, From}
 use Rattle.op_board.specs.OperationNets.{OperationNet, operation_count}
 use Rattle.op_board.specs.OperationTokens.{OperationTokens, fired_as, operation_moves}
 use Rattle.op_net.specs.declared.net.OpNet.{OpNet}
-use Rattle.op_net.specs.declared.telling.OpName.{OpName}
-use Rattle.op_net.specs.declared.telling.OpName.TheVariants.{Load}
+use Rattle.operation_tables.specs.declared.telling.OpName.{OpName}
+use Rattle.operation_tables.specs.declared.telling.OpName.TheVariants.{Load}
 use Rattle.op_net.specs.NetView.{marking_of, net_of}
-use Rattle.op_net.specs.PlacesView.{KeepsCounts}
-use Rattle.op_net.specs.Waits.{node_total}
+use Rattle.operation_places.specs.PlacesView.{KeepsCounts}
+use Rattle.operation_tables.specs.Waits.{node_total}
 
 module _ {W : ℕ} where
   -- it isn't counted for how much each node waits

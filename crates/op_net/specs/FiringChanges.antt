@@ -10,8 +10,8 @@ use Rattle.net_board.specs.Tokens.{source_line, with_all}
 use Rattle.op_board.specs.Operations.{is_decision}
 use Rattle.op_board.specs.OperationNets.{OperationNet, operation_at}
 use Rattle.op_board.specs.OperationTokens.{OperationTokens}
-use Rattle.op_net.specs.PlacesView.{value_put}
-use Rattle.op_net.specs.StandingChanges.{lines_dropped, lines_moved, values_taken}
+use Rattle.operation_places.specs.PlacesView.{value_put}
+use Rattle.operation_places.specs.StandingChanges.{lines_dropped, lines_moved, values_taken}
 
 -- the memory is this one
 abbrev pub remembered : OperationTokens → Memory → OperationTokens

@@ -4,7 +4,7 @@ use Rattle.firing.specs.declared.system.Fired.{Fired}
 use Rattle.firing.specs.Play.{moment}
 use Rattle.firing.specs.SourceOrder.{FiresTo, newest_after}
 use Rattle.op_board.specs.WholePieces.{own_way}
-use Rattle.op_net.specs.declared.control_moves.Visit.{Visit}
+use Rattle.operation_places.specs.declared.control_moves.Visit.{Visit}
 use Rattle.op_net.specs.declared.net.OpNet.{OpNet}
 use Rattle.op_net.specs.NetView.{marking_of, net_of}
 

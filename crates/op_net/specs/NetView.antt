@@ -4,7 +4,7 @@ use Rattle.f77_meaning.specs.Storage.{memory_of}
 use Rattle.op_board.specs.OperationNets.{OperationNet}
 use Rattle.op_board.specs.OperationTokens.{OperationTokens}
 use Rattle.op_net.specs.declared.net.OpNet.{OpNet}
-use Rattle.op_net.specs.BoardView.{operation_net_on}
+use Rattle.operation_tables.specs.BoardView.{operation_net_on}
 
 module _ {W : ℕ} where
   -- what firings never change

@@ -4,8 +4,8 @@ use Rattle.net_board.specs.Tokens.{edge_of, led_from}
 use Rattle.op_board.specs.OperationNets.{OperationNet, first_operation, is_last_at, needing_before}
 use Rattle.op_board.specs.OperationTokens.{OperationTokens}
 use Rattle.op_board.specs.Operations.{Operand, Known, From}
-use Rattle.op_net.specs.OperationRows.{IsTaker}
-use Rattle.op_net.specs.PlacesView.{edge_put, line_put, value_put}
+use Rattle.operation_tables.specs.OperationRows.{IsTaker}
+use Rattle.operation_places.specs.PlacesView.{edge_put, line_put, value_put}
 
 -- the operand is one of this operation of the piece
 abbrev pub IsOwnOperand : OperationNet → (piece i : ℕ) → Operand → Type 0

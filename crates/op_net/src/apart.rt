@@ -17,21 +17,21 @@ ghost use Rattle.op_board.specs.Operations.{gives_value};
 ghost use Rattle.operation_lists.specs.Seen.{operand_seen};
 ghost use Rattle.op_net.specs.ApartLoads.{IsCounting, IsUncounted, KeepsApart, MarksOthers, apart_of, flags_of, giver_of, is_apart, is_load_name, loaded_apart, needing};
 ghost use Rattle.op_net.specs.NetView.{marking_of, net_of};
-ghost use Rattle.op_net.specs.OperationRows.{NextIs};
-ghost use Rattle.op_net.specs.PlacesView.{line_put};
-ghost use Rattle.op_net.specs.Steering.{LeadsBy};
-ghost use Rattle.op_net.specs.Telling.{operation_name};
-ghost use Rattle.op_net.specs.Waits.{IsNodeBefore, node_total, one_if, takes_from};
+ghost use Rattle.operation_tables.specs.OperationRows.{NextIs};
+ghost use Rattle.operation_places.specs.PlacesView.{line_put};
+ghost use Rattle.operation_places.specs.Steering.{LeadsBy};
+ghost use Rattle.operation_tables.specs.Telling.{operation_name};
+ghost use Rattle.operation_tables.specs.Waits.{IsNodeBefore, node_total, one_if, takes_from};
 
-use crate::control_moves::{due_at, steered};
-use crate::leads::lead_of;
+use crate::OpNet;
 use crate::net_firing::{count_ahead, work_with};
-use crate::standing::{head, is_needed, node_before, turn_of};
-use crate::telling::{operand_at, work_name};
-use crate::waiting::waits_for_operands;
-use crate::{OpName, OpNet, Operand};
 use firing::ReadySet;
 use operation_effects::Did;
+use operation_lists::Operand;
+use operation_places::{
+    due_at, head, is_needed, lead_of, node_before, steered, turn_of, waits_for_operands,
+};
+use operation_tables::{OpName, operand_at, work_name};
 
 impl<const W: usize> OpNet<'_, W> {
     // ---- the nodes that another game leads

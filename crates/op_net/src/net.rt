@@ -4,15 +4,15 @@ ghost use Rattle.std.specs.Option.{ForSome};
 ghost use Rattle.std.specs.Prelude.{◌≡◌, ◌≤◌, length, vec_capacity};
 ghost use Rattle.f77_meaning.specs.Room.{most_room};
 ghost use Rattle.net_board.specs.ControlPlaces.{IsPlaced};
-ghost use Rattle.op_net.specs.BoardView.{operation_net_on};
-ghost use Rattle.op_net.specs.PlacesView.{IsCounted};
-ghost use Rattle.op_net.specs.SoundPlaces.{ArePlaces};
+ghost use Rattle.operation_tables.specs.BoardView.{operation_net_on};
+ghost use Rattle.operation_places.specs.PlacesView.{IsCounted};
+ghost use Rattle.operation_places.specs.SoundPlaces.{ArePlaces};
 
-use crate::lookups::OperationBoard;
-use crate::places::Places;
 use f77_meaning::{Storage, word_in};
 use net_board::Control;
 use op_table::Trap;
+use operation_places::Places;
+use operation_tables::OperationBoard;
 
 /// A dataflow net that does what a program does, whatever the order in which its nodes fire. Its nodes are loads, stores, operators,
 /// and what else the statements of the program come to. Tokens stand for the classes of the words that these load and store, and for

@@ -17,30 +17,27 @@ ghost use Rattle.op_board.specs.OperationTokens.{can_operate, givers, has_room, 
 ghost use Rattle.op_board.specs.Operations.{gives_value};
 ghost use Rattle.operation_effects.specs.Done.{KeepsLine, KeepsStorage, told};
 ghost use Rattle.op_net.specs.ApartLoads.{KeepsApart};
-ghost use Rattle.op_net.specs.BoardView.{operation_net_on};
+ghost use Rattle.operation_tables.specs.BoardView.{operation_net_on};
 ghost use Rattle.op_net.specs.FiringChanges.{given_on, remembered, room_left, told_on};
 ghost use Rattle.op_net.specs.NetView.{marking_of, net_of};
-ghost use Rattle.op_net.specs.OperationRows.{IsRow, room_of};
-ghost use Rattle.op_net.specs.PlacesView.{IsAheadBy, IsCounted, IsCountedAhead, KeepsCounts, MakesUp, standing};
-ghost use Rattle.op_net.specs.SoundPlaces.{ArePlaces};
-ghost use Rattle.op_net.specs.StandingChanges.{lines_dropped, values_taken};
-ghost use Rattle.op_net.specs.Turns.{is_turning};
-ghost use Rattle.op_net.specs.Steering.{LeadsBy};
-ghost use Rattle.op_net.specs.Visits.{IsVisit};
-ghost use Rattle.op_net.specs.Waits.{node_total};
+ghost use Rattle.operation_tables.specs.OperationRows.{IsRow, room_of};
+ghost use Rattle.operation_places.specs.PlacesView.{IsAheadBy, IsCounted, IsCountedAhead, KeepsCounts, MakesUp, standing};
+ghost use Rattle.operation_places.specs.SoundPlaces.{ArePlaces};
+ghost use Rattle.operation_places.specs.StandingChanges.{lines_dropped, values_taken};
+ghost use Rattle.operation_places.specs.Turns.{is_turning};
+ghost use Rattle.operation_places.specs.Steering.{LeadsBy};
+ghost use Rattle.operation_places.specs.Visits.{IsVisit};
+ghost use Rattle.operation_tables.specs.Waits.{node_total};
 
 use crate::OpNet;
-use crate::control_moves::{Visit, passed_on};
-use crate::lookups::OperationBoard;
 use crate::operating::{
     chosen_edge, drop_needed, fill_room, lead_line, move_lines, take_few, take_operands,
 };
-use crate::places::Places;
-use crate::rows::{MANY, Row};
-use crate::waiting::waits_are_few;
 use f77_meaning::Storage;
 use firing::{Fired, NodeName};
 use operation_effects::{Did, perform};
+use operation_places::{Places, Visit, passed_on, waits_are_few};
+use operation_tables::{MANY, OperationBoard, Row};
 use std::mem::swap;
 
 impl<const W: usize> OpNet<'_, W> {

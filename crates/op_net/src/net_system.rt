@@ -1,10 +1,9 @@
 //! The net of a program with operations as nodes as a step system, with the program's own order.
 
 use crate::OpNet;
-use crate::control_moves::{due_at, due_in, steered, visit_at};
-use crate::waiting::waits;
 use firing::{Fired, NodeName, SourceOrder, StepSystem};
 use op_table::Trap;
+use operation_places::{due_at, due_in, steered, visit_at, waits};
 
 impl<const W: usize> StepSystem for OpNet<'_, W> {
     ghost use Rattle.net_board.specs.declared.control.Control.{Control as Place_of};

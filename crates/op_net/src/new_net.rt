@@ -12,30 +12,23 @@ ghost use Rattle.op_board.specs.OperationNets.{operation_count};
 ghost use Rattle.op_board.specs.OperationTokens.{first_operation_tokens, operation_moves};
 ghost use Rattle.op_board.specs.SoundOperationNets.{IsOperationNet, OperationsCanCome};
 ghost use Rattle.op_net.specs.ApartLoads.{IsUncounted};
-ghost use Rattle.op_net.specs.FirstPlaces.{AreFirstPlaces};
 ghost use Rattle.op_net.specs.NetView.{marking_of, net_of};
-ghost use Rattle.op_net.specs.OperationParts.{AreOperationParts};
-ghost use Rattle.op_net.specs.OperationTables.{AreOperationTables};
-ghost use Rattle.op_net.specs.PlanView.{operations_in};
+ghost use Rattle.operation_tables.specs.OperationParts.{AreOperationParts};
 ghost use Rattle.op_net.specs.StaysInStep.{StaysInStep};
 
-use crate::leads::no_leads;
-use crate::lookups::OperationBoard;
-use crate::places::Places;
-use crate::plan::OperationPlan;
-use crate::tables::{OperationTables, make_tables};
-use crate::{OpGraph, OpNet};
+use crate::OpNet;
 use alias_classes::Classes;
 use cfg_build::Flow;
 use dep_routing::{Lines, TouchList};
 use df_sequence::NoMemory;
 use f77_meaning::{initial_storage, longest_line};
 use f77_tree::Program;
-use firing::ReadySet;
-use net_tables::{first_control, first_places, nothing_left};
+use net_tables::first_control;
 use op_board::{
     operation_nets_begin_soundly, operation_nets_pass_pieces_whole, operation_nets_stay_in_lockstep,
 };
+use operation_places::Places;
+use operation_tables::OperationBoard;
 use std::alloc::Global;
 
 impl<'a, const W: usize> OpNet<'a, W> {
@@ -66,15 +59,10 @@ impl<'a, const W: usize> OpNet<'a, W> {
         operation_nets_begin_soundly();
         operation_nets_stay_in_lockstep();
         operation_nets_pass_pieces_whole();
-        let graph = OpGraph::new(alloc, p, f, c, touch, l, input)?;
-        let OpGraph {
-            plan,
-            tables: nodes,
-        } = graph;
-        let tables = make_tables(alloc, &plan, nodes)?;
+        let board = OperationBoard::new(alloc, p, f, c, touch, l, input)?;
         let room = longest_line(p.execs.as_slice());
-        let control = first_control(&plan.board);
-        let places = first_state(alloc, &plan, &tables)?;
+        let control = first_control(&board.plan.board);
+        let places = Places::new(alloc, &board)?;
         Ok(OpNet {
             places,
             storage: initial_storage(alloc, p)?,
@@ -82,33 +70,9 @@ impl<'a, const W: usize> OpNet<'a, W> {
             control: Some(control),
             text: Vec::with_capacity(alloc, room)?,
             draft: Vec::with_capacity(alloc, room)?,
-            args: Vec::with_capacity(alloc, tables.most)?,
-            values: vec![in alloc; 0; tables.most]?,
-            board: OperationBoard { plan, tables },
+            args: Vec::with_capacity(alloc, board.tables.most)?,
+            values: vec![in alloc; 0; board.tables.most]?,
+            board,
         })
     }
-}
-
-// Each line stands where it is led from the edge that leaves the start, nothing is left for any switch, and no value is given.
-fn first_state<const W: usize>(
-    alloc: Global,
-    plan: &OperationPlan<W>,
-    tables: &OperationTables,
-) -> Result<Places, NoMemory>
-    requires { AreOperationTables (operations_in plan.now) tables.now }
-    ensures { IfOk result (λ s. AreFirstPlaces (operations_in plan.now) s) }
-{
-    let nodes = tables.names.len();
-    let lines = plan.board.plan.routes.lines() as usize;
-    Ok(Places {
-        lines: first_places(alloc, &plan.board.plan)?,
-        passed: vec![in alloc; 0; lines]?,
-        edges: nothing_left(alloc, plan.board.nodes())?,
-        values: vec![in alloc; None; nodes]?,
-        counted: false,
-        counts: Vec::with_capacity(alloc, nodes)?,
-        set: ReadySet::with_room(alloc, nodes as u32)?,
-        apart: Vec::with_capacity(alloc, 0)?,
-        leads: no_leads(alloc)?,
-    })
 }

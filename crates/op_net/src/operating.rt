@@ -10,20 +10,17 @@ ghost use Rattle.op_board.specs.OperationNets.{first_operation, needed, operatio
 ghost use Rattle.op_board.specs.OperationTokens.{are_clear, givers, is_given, operand_in, passed_by, stands_before};
 ghost use Rattle.std.specs.List.{list_all};
 ghost use Rattle.operation_lists.specs.Seen.{operand_seen};
-ghost use Rattle.op_net.specs.BoardView.{operation_net_on};
-ghost use Rattle.op_net.specs.OperationRows.{IsHop, IsRow, first_three};
+ghost use Rattle.operation_tables.specs.BoardView.{operation_net_on};
+ghost use Rattle.operation_tables.specs.OperationRows.{IsHop, IsRow, first_three};
 ghost use Rattle.op_net.specs.PlaceSteps.{IsOwnOperand, line_moved, operand_taken, values_for};
-ghost use Rattle.op_net.specs.PlacesView.{IsAheadBy, KeepsCounts, MakesUp, line_put, standing};
-ghost use Rattle.op_net.specs.SoundPlaces.{ArePlaces};
-ghost use Rattle.op_net.specs.StandingChanges.{lines_dropped, lines_moved, room_filled, values_taken};
-ghost use Rattle.op_net.specs.Waits.{IsNodeBefore, node_total};
+ghost use Rattle.operation_places.specs.PlacesView.{IsAheadBy, KeepsCounts, MakesUp, line_put, standing};
+ghost use Rattle.operation_places.specs.SoundPlaces.{ArePlaces};
+ghost use Rattle.operation_places.specs.StandingChanges.{lines_dropped, lines_moved, room_filled, values_taken};
+ghost use Rattle.operation_tables.specs.Waits.{IsNodeBefore, node_total};
 
-use crate::hops::Hop;
-use crate::leads::lead_of;
-use crate::lookups::OperationBoard;
-use crate::places::Places;
-use crate::rows::Row;
 use operation_lists::Operand;
+use operation_places::{Places, lead_of};
+use operation_tables::{Hop, OperationBoard, Row};
 
 /// Appends a value for which there is room.
 pub(crate) fn push_argument(args: &mut Vec<i32>, z: i32)

@@ -16,17 +16,16 @@ ghost use Rattle.op_board.specs.WholePieces.{answer_of};
 ghost use Rattle.op_net.specs.NetFirings.{FiresWhole, HasFired};
 ghost use Rattle.op_net.specs.NetView.{marking_of, net_of};
 ghost use Rattle.op_net.specs.PieceEnds.{effect_told};
-ghost use Rattle.op_net.specs.StandingChanges.{lines_led};
+ghost use Rattle.operation_places.specs.StandingChanges.{lines_led};
 ghost use Rattle.op_net.specs.StaysInStep.{StaysInStep};
-ghost use Rattle.op_net.specs.Visits.{IsVisit};
+ghost use Rattle.operation_places.specs.Visits.{IsVisit};
 
 use crate::OpNet;
-use crate::control_moves::{Visit, visit_at};
-use crate::piece_lines::lead_piece;
 use crate::piece_performing::PieceEnd;
 use firing::Fired;
 use net_board::Control;
 use net_tables::is_end;
+use operation_places::{Visit, lead_piece, visit_at};
 use std::mem::swap;
 
 impl<const W: usize> OpNet<'_, W> {

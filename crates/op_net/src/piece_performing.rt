@@ -11,20 +11,19 @@ ghost use Rattle.operation_effects.specs.Done.{KeepsLine, KeepsStorage, told};
 ghost use Rattle.operation_effects.specs.OperandValues.{IsAmong, operand_values};
 ghost use Rattle.operation_lists.specs.Seen.{operand_seen};
 ghost use Rattle.operation_lists.specs.declared.operations.Operand.{Operand};
-ghost use Rattle.op_net.specs.BoardView.{operation_net_on};
+ghost use Rattle.operation_tables.specs.BoardView.{operation_net_on};
 ghost use Rattle.op_net.specs.FiringChanges.{remembered};
 ghost use Rattle.op_net.specs.NetView.{marking_of, net_of};
-ghost use Rattle.op_net.specs.OperationRows.{IsRow};
+ghost use Rattle.operation_tables.specs.OperationRows.{IsRow};
 ghost use Rattle.op_net.specs.PieceEnds.{effect_told};
 ghost use Rattle.op_net.specs.PieceValues.{HasRoom, performed_over, ran_from};
 
 use crate::OpNet;
-use crate::lookups::OperationBoard;
 use crate::operating::push_argument;
-use crate::rows::Row;
 use f77_meaning::Storage;
 use operation_effects::{Did, give_value, operand_value, perform};
 use operation_lists::Operands;
+use operation_tables::{OperationBoard, Row};
 
 /// How control leaves a piece whose operations were all performed.
 #[derive(Clone, Copy)]

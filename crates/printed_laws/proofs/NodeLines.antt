@@ -11,9 +11,9 @@ use Rattle.firing.specs.declared.system.NodeName.{NodeName}
 use Rattle.firing.specs.declared.system.NodeName.TheVariants.{Act, Merge, Switch, Op}
 use Rattle.net_board.specs.Nodes.{graph_in, all_lines}
 use Rattle.op_board.specs.OperationNets.{OperationNet, all_operation_nodes, needed, operation_at, operation_count, operation_node}
-use Rattle.op_net.specs.declared.telling.OpName.{OpName}
-use Rattle.op_net.specs.declared.telling.OpName.TheVariants as name
-use Rattle.op_net.specs.Telling.{operation_name}
+use Rattle.operation_tables.specs.declared.telling.OpName.{OpName}
+use Rattle.operation_tables.specs.declared.telling.OpName.TheVariants as name
+use Rattle.operation_tables.specs.Telling.{operation_name}
 use Rattle.graph_texts.specs.GraphText.{node_line, node_lines, node_text as told_text, numbers_text}
 use Rattle.graph_texts.specs.OperationNames.{op_name, operator_name, work_name}
 use Rattle.printed_graphs.specs.declared.dataflow.Node.{Node}

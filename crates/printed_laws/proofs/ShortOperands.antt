@@ -5,7 +5,7 @@ use Rattle.std.proofs.lemmas.List.Elements.{All-more}
 use Rattle.operation_lists.specs.declared.operations.Operand.{Operand as Given}
 use Rattle.op_board.specs.Operations.{Operand, Known, From}
 use Rattle.op_board.specs.OperationNets.{OperationNet, all_operation_nodes, first_operation, operation_node}
-use Rattle.op_net.specs.Telling.{node_operand}
+use Rattle.operation_tables.specs.Telling.{node_operand}
 use Rattle.printed_laws.specs.ShortNet.{HasShortOperands, HaveShortOperandsBelow, IsShortGiven, IsShortOperand}
 
 short_if_given : (x : OperationNet) (piece : ℕ) (o : Operand) → IsShortGiven (node_operand (first_operation x piece) o) → IsShortOperand x piece o

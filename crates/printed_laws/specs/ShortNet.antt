@@ -7,7 +7,7 @@ use Rattle.op_board.specs.Operations.{Operand, Known, From}
 use Rattle.operation_lists.specs.declared.operations.Operand.{Operand as Given}
 use Rattle.operation_lists.specs.declared.operations.Operand.TheVariants as given
 use Rattle.op_board.specs.OperationNets.{OperationNet, all_operation_nodes, first_operation, operation_at, operation_node}
-use Rattle.op_net.specs.Telling.{number_of, piece_of}
+use Rattle.operation_tables.specs.Telling.{number_of, piece_of}
 
 -- an operand that is the number of a node, or a word
 abbrev pub IsShortGiven : Given → Type 0

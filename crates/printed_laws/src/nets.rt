@@ -3,14 +3,15 @@
 ghost use Rattle.std.specs.Prelude.{◌<◌};
 ghost use Rattle.op_table.specs.Words.{IsWord};
 ghost use Rattle.op_board.specs.OperationNets.{operation_node};
-ghost use Rattle.op_net.specs.GraphView.{operations_of};
-ghost use Rattle.op_net.specs.Telling.{IsOperation};
-ghost use Rattle.op_net.specs.Waits.{node_total};
+ghost use Rattle.operation_tables.specs.GraphView.{operations_of};
+ghost use Rattle.operation_tables.specs.Telling.{IsOperation};
+ghost use Rattle.operation_tables.specs.Waits.{node_total};
 ghost use Rattle.printed_laws.specs.ShortNet.{HasShortOperands, IsShortGiven, IsShortNet, HasShortOperandsAt};
 
 use crate::numbers::stays_short;
 use firing::NodeName;
-use op_net::{OpGraph, Operand};
+use operation_lists::Operand;
+use operation_tables::OpGraph;
 
 /// Each net of operations that is made has nodes that are counted in 32 bits, and so are the operands of each operation. They are the
 /// numbers of nodes, or words.

@@ -8,7 +8,7 @@ use Rattle.net_board.specs.Tokens.{edge_of, joined}
 use Rattle.net_board.proofs.ListPlaces.{get_set_other, index_of, same_or_not}
 use Rattle.op_board.specs.OperationNets.{OperationNet}
 use Rattle.op_board.specs.OperationTokens.{OperationTokens, passed_by}
-use Rattle.op_net.specs.PlacesView.{line_put}
+use Rattle.operation_places.specs.PlacesView.{line_put}
 use Rattle.fork_board.specs.ForkTokens.{ForkTokens, is_open, standing}
 use Rattle.fork_board.specs.LoadGroups.{Site, Spot, behind_group, group_at, is_among, is_site, load_at, spot}
 use Rattle.read_forks.specs.LoadChanges.{IsForgotten, IsPut, Loaded, are_loaded}

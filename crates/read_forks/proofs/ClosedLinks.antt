@@ -8,8 +8,8 @@ use Rattle.net_board.proofs.ListPlaces.{get_set_other, length_slice_set}
 use Rattle.op_board.specs.OperationNets.{OperationNet, operation_node}
 use Rattle.op_board.specs.OperationTokens.{OperationTokens, passed_by}
 use Rattle.op_board.specs.SoundOperationNets.{OperationsCanCome}
-use Rattle.op_net.specs.PlacesView.{line_put}
-use Rattle.op_net.specs.Waits.{IsNodeBefore}
+use Rattle.operation_places.specs.PlacesView.{line_put}
+use Rattle.operation_tables.specs.Waits.{IsNodeBefore}
 use Rattle.fork_board.specs.Chains.{ComeOnce, GroupsEnd}
 use Rattle.fork_board.specs.LoadGroups.{Spot, behind_group, group_at, load_at, most_loads, spot}
 use Rattle.read_forks.specs.KeptLoads.{AreLinesKept, AreTables, opened_of}

@@ -7,7 +7,7 @@ use Rattle.op_board.specs.OperationNets.{OperationNet, needed, operation_node}
 use Rattle.op_board.specs.SoundOperationNets.{OperationsCanCome}
 use Rattle.op_net.specs.ApartLoads.{KeepsApart}
 use Rattle.op_net.specs.NetView.{marking_of as operations_on, net_of as net_in}
-use Rattle.op_net.specs.Waits.{node_total}
+use Rattle.operation_tables.specs.Waits.{node_total}
 use Rattle.op_net.specs.declared.net.OpNet.{OpNet}
 use Rattle.fork_board.specs.Chains.{ComeOnce, GroupsEnd}
 use Rattle.read_forks.specs.KeptLoads.{AreClosedFor, AreLinesKept, opened_of}

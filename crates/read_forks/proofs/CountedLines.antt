@@ -8,7 +8,7 @@ use Rattle.net_board.proofs.ListPlaces.{get_set_other}
 use Rattle.net_board.proofs.NodeLaws.{Distinct}
 use Rattle.op_board.specs.OperationNets.{OperationNet, needed, operation_node}
 use Rattle.op_board.proofs.OperationNumbers.{one_operation_number}
-use Rattle.op_net.specs.Waits.{failing, node_total, one_if}
+use Rattle.operation_tables.specs.Waits.{failing, node_total, one_if}
 use Rattle.read_forks.specs.LoadChanges.{IsPut, Loaded}
 use Rattle.read_forks.specs.OpenGroups.{AreClosed, closed_of}
 use Rattle.read_forks.proofs.LoadFirings.{needed_distinct}

@@ -18,7 +18,7 @@ use Rattle.op_board.proofs.OperationFirings.{FiringFacts}
 use Rattle.op_board.proofs.OperationLaws.{firing_facts}
 use Rattle.op_board.proofs.OperationNumbers.{IsOperationNamed, one_operation_number, operation_named}
 use Rattle.op_board.proofs.OperationsApart.{same_taker}
-use Rattle.op_net.specs.Waits.{goes_through}
+use Rattle.operation_tables.specs.Waits.{goes_through}
 use Rattle.fork_board.specs.ForkFootprints.{Rest, fork_foot, fork_part_at, fork_shares, fork_update}
 use Rattle.fork_board.specs.ForkTokens.{ForkTokens, fork_moves, is_load_node}
 use Rattle.fork_board.specs.SoundForks.{ForksCanCome}

@@ -10,7 +10,7 @@ use Rattle.net_board.proofs.ListPlaces.{all_pass, get_set_other, length_slice_se
 use Rattle.op_board.specs.OperationNets.{OperationNet, needed, operation_at, operation_node}
 use Rattle.op_board.specs.OperationTokens.{OperationTokens, fired_as, is_given, taken_values, value_at, value_of}
 use Rattle.op_board.proofs.OperationNumbers.{one_operation_number}
-use Rattle.op_net.specs.Waits.{failing, node_total, one_if}
+use Rattle.operation_tables.specs.Waits.{failing, node_total, one_if}
 use Rattle.fork_board.specs.ForkTokens.{ForkTokens, fork_fired_as, fork_moves, fork_ready_as, is_load_node, is_open, standing}
 use Rattle.fork_board.specs.LoadGroups.{is_load}
 use Rattle.fork_board.specs.SoundForks.{ForksCanCome}

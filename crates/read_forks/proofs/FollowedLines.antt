@@ -10,7 +10,7 @@ use Rattle.net_board.specs.Nodes.{graph_in}
 use Rattle.net_board.specs.Tokens.{edge_of}
 use Rattle.op_board.specs.OperationNets.{OperationNet, first_operation, needing_before, operation_count, operation_node}
 use Rattle.op_board.specs.OperationTokens.{OperationTokens, passed_by}
-use Rattle.op_net.specs.OperationRows.{IsNextNeed}
+use Rattle.operation_tables.specs.OperationRows.{IsNextNeed}
 use Rattle.fork_board.specs.LoadGroups.{Site, Spot, load_at, load_in, most_loads, number_at, piece_at, site, spot}
 use Rattle.fork_board.proofs.LoadSpots.{number_there}
 use Rattle.read_forks.specs.KeptLoads.{AreOpened, IsOpenForNone}

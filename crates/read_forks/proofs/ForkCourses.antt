@@ -5,7 +5,7 @@ use Rattle.net_board.specs.declared.control.Control.{Control}
 use Rattle.op_board.specs.OperationCourse.{operation_course}
 use Rattle.op_board.specs.OperationNets.{OperationNet}
 use Rattle.op_board.specs.OperationTokens.{OperationTokens}
-use Rattle.op_net.specs.Steering.{LeadsBy}
+use Rattle.operation_places.specs.Steering.{LeadsBy}
 use Rattle.fork_board.specs.ForkTokens.{ForkTokens, fork_course}
 
 pub due_there : (x : OperationNet) (m : ForkTokens) (c : Option Control) → due_at (operation_course x) m.operations c ≡ due_at (fork_course x) m c

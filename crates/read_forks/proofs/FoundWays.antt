@@ -9,8 +9,8 @@ use Rattle.net_board.specs.Tokens.{leads_to}
 use Rattle.net_board.proofs.ListPlaces.{get_set_other}
 use Rattle.op_board.specs.OperationNets.{OperationNet, first_operation, is_last_at, needed, needing_before, operation_at, operation_node}
 use Rattle.op_board.proofs.OperationNumbers.{operation_number}
-use Rattle.op_net.specs.OperationRows.{IsNextNeed}
-use Rattle.op_net.specs.Waits.{IsNodeBefore, goes_through, node_total, stands_at}
+use Rattle.operation_tables.specs.OperationRows.{IsNextNeed}
+use Rattle.operation_tables.specs.Waits.{IsNodeBefore, goes_through, node_total, stands_at}
 use Rattle.fork_board.specs.ForkTokens.{is_load_node}
 use Rattle.fork_board.specs.LoadGroups.{Site, is_load, load_at, number_at, piece_at, spot}
 use Rattle.fork_board.proofs.LoadSpots.{IsLoadIn, IsNumberAt, load_is, number_is}

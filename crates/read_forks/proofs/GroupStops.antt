@@ -7,7 +7,7 @@ use Rattle.firing.specs.declared.system.NodeName.TheVariants.{Op}
 use Rattle.net_board.specs.Nodes.{graph_in}
 use Rattle.op_board.specs.OperationNets.{OperationNet, first_operation, needing_before, operation_at, operation_count, operation_node}
 use Rattle.op_board.proofs.OperationNumbers.{operation_number}
-use Rattle.op_net.specs.Waits.{IsNodeBefore, node_total}
+use Rattle.operation_tables.specs.Waits.{IsNodeBefore, node_total}
 use Rattle.fork_board.specs.LoadGroups.{Site, Spot, is_load, load_at, number_at, piece_at, site, spot, spot_after}
 use Rattle.fork_board.proofs.ForkFirings.{both_ways}
 use Rattle.fork_board.proofs.LoadSpots.{IsLoadIn, IsNumberAt, load_is, number_is}

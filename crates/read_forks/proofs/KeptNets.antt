@@ -5,7 +5,7 @@ use Rattle.op_board.specs.OperationNets.{OperationNet, operation_node}
 use Rattle.op_board.specs.OperationTokens.{OperationTokens}
 use Rattle.op_net.specs.ApartLoads.{KeepsApart, apart_of}
 use Rattle.op_net.specs.NetView.{net_of as net_in}
-use Rattle.op_net.specs.Waits.{node_total}
+use Rattle.operation_tables.specs.Waits.{node_total}
 use Rattle.op_net.specs.declared.net.OpNet.{OpNet}
 use Rattle.fork_board.specs.ForkTokens.{is_load_node}
 use Rattle.read_forks.specs.KeptLoads.{AreKept}

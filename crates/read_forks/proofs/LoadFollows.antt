@@ -5,7 +5,7 @@ use Rattle.cfg_build.specs.Passes.{out}
 use Rattle.dep_routing.specs.Routing.{next_at}
 use Rattle.net_board.specs.Nodes.{graph_in}
 use Rattle.op_board.specs.OperationNets.{OperationNet, is_last_at, needing_before, operation_count}
-use Rattle.op_net.specs.OperationRows.{IsNextNeed, NextIs}
+use Rattle.operation_tables.specs.OperationRows.{IsNextNeed, NextIs}
 use Rattle.fork_board.specs.LoadGroups.{Site, Spot, is_last_there, load_at, load_in, number_at, piece_at, site, spot, spot_after}
 use Rattle.fork_board.proofs.LoadSpots.{IsLoadIn, IsNumberAt, load_is, number_is, number_there}
 use Rattle.read_forks.specs.LinkTables.{Follows}

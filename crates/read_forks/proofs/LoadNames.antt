@@ -2,8 +2,8 @@
 use Rattle.std.proofs.Common.{◌≡◌, true, refl}
 use Rattle.op_board.specs.Operations.{Work, Load, Operate, Store, Take, Write, Begin, Advance, DecideTruth, DecideSign, DecideNumber, DecideTrips, DecideFirst}
 use Rattle.op_net.specs.ApartLoads.{is_load_name}
-use Rattle.op_net.specs.Telling.{operation_name}
-use Rattle.op_net.specs.declared.telling.OpName.TheVariants as name
+use Rattle.operation_tables.specs.Telling.{operation_name}
+use Rattle.operation_tables.specs.declared.telling.OpName.TheVariants as name
 use Rattle.fork_board.specs.LoadGroups.{is_load}
 
 pub names_loads : (work : Work) → is_load_name (operation_name work) ≡ is_load work

@@ -12,7 +12,7 @@ use Rattle.op_board.specs.OperationTokens.{OperationTokens, is_given, value_at}
 use Rattle.op_board.specs.SoundOperationNets.{OperationsCanCome}
 use Rattle.op_net.specs.ApartLoads.{IsCounting, KeepsApart, MarksOthers, apart_of, flags_of, loaded_apart}
 use Rattle.op_net.specs.NetView.{marking_of as operations_on, net_of as net_in}
-use Rattle.op_net.specs.Waits.{node_total}
+use Rattle.operation_tables.specs.Waits.{node_total}
 use Rattle.op_net.specs.declared.net.OpNet.{OpNet}
 use Rattle.fork_board.specs.Chains.{ComeOnce, GroupsEnd}
 use Rattle.fork_board.specs.ForkTokens.{ForkTokens, fork_moves, fork_ready_as, is_load_node}

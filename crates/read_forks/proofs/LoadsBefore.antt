@@ -11,7 +11,7 @@ use Rattle.net_board.proofs.NodeLaws.{get_some}
 use Rattle.op_board.specs.OperationNets.{OperationNet, first_operation, needed, needing_before, operation_count, operation_node}
 use Rattle.op_board.proofs.NeededLines.{needed_in}
 use Rattle.op_board.proofs.OperationNumbers.{IsOperationNamed, operation_named}
-use Rattle.op_net.specs.Waits.{IsNodeBefore, goes_through, node_total, stands_at}
+use Rattle.operation_tables.specs.Waits.{IsNodeBefore, goes_through, node_total, stands_at}
 use Rattle.fork_board.specs.ForkTokens.{is_load_node}
 use Rattle.fork_board.specs.LoadGroups.{Site, load_at, load_in, number_at, piece_at, site, spot}
 use Rattle.fork_board.proofs.ForkFirings.{both_ways}

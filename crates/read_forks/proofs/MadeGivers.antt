@@ -19,7 +19,7 @@ use Rattle.op_board.proofs.OperationNumbers.{IsOperationNamed, operation_named, 
 use Rattle.op_board.proofs.OperationTakers.{takes_among}
 use Rattle.op_board.proofs.OperationsApart.{operation_get}
 use Rattle.op_board.proofs.ValueTaking.{below_or_not, get_end, list_of, operations_end, taken_later}
-use Rattle.op_net.specs.Waits.{node_total, one_if, operands_from, takes_from}
+use Rattle.operation_tables.specs.Waits.{node_total, one_if, operands_from, takes_from}
 use Rattle.fork_board.specs.ForkTokens.{is_load_node}
 use Rattle.read_forks.specs.MadeSteps.{load_givers}
 use Rattle.read_forks.specs.NodeLinks.{AreGivers, AreValueLoads, IsLoadTaker, is_listed, is_that}

@@ -8,7 +8,7 @@ use Rattle.firing.specs.declared.system.NodeName.TheVariants.{Act, Merge, Op, Sw
 use Rattle.net_board.proofs.NodeLaws.{get_left, get_right, get_some, member_at}
 use Rattle.op_board.specs.OperationNets.{OperationNet, needed, operation_node}
 use Rattle.op_board.proofs.ValueTaking.{below_or_not, get_end}
-use Rattle.op_net.specs.Waits.{node_total}
+use Rattle.operation_tables.specs.Waits.{node_total}
 use Rattle.fork_board.specs.ForkTokens.{is_load_node}
 use Rattle.read_forks.specs.MadeSteps.{AreStepsBelow, new_link_of}
 use Rattle.read_forks.specs.NodeLinks.{AreSteps, HasLinks, IsOwnLink, IsStep, is_turn, linked_lines, turn_step}

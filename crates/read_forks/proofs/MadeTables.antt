@@ -8,7 +8,7 @@ use Rattle.op_board.specs.Operations.{Operand, Known, From}
 use Rattle.op_board.specs.OperationNets.{OperationNet, first_operation, needed, operation_at, operation_node}
 use Rattle.op_board.proofs.OperationNumbers.{IsOperationNamed, operation_named}
 use Rattle.op_net.specs.ApartLoads.{giver_of}
-use Rattle.op_net.specs.Waits.{node_total}
+use Rattle.operation_tables.specs.Waits.{node_total}
 use Rattle.fork_board.specs.ForkTokens.{is_load_node}
 use Rattle.read_forks.specs.MadeSteps.{AreTablesBelow, load_givers, new_link_of}
 use Rattle.read_forks.specs.NodeLinks.{AreValueLoads, IsLoadTaker, is_turn, linked_lines, turn_step}

@@ -5,7 +5,7 @@ use Rattle.std.specs.List.{list_all}
 use Rattle.net_board.specs.Tokens.{edge_of}
 use Rattle.op_board.specs.OperationNets.{OperationNet}
 use Rattle.op_board.specs.OperationTokens.{OperationTokens, passed_by}
-use Rattle.op_net.specs.Waits.{failing, one_if}
+use Rattle.operation_tables.specs.Waits.{failing, one_if}
 use Rattle.fork_board.specs.ForkTokens.{Standing, is_open, is_open_on, standing}
 use Rattle.fork_board.specs.LoadGroups.{group_at, is_among, spot}
 use Rattle.read_forks.specs.LoadChanges.{Loaded}

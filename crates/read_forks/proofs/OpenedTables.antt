@@ -7,7 +7,7 @@ use Rattle.firing.specs.declared.system.NodeName.{NodeName}
 use Rattle.net_board.proofs.ListPrefixes.{member_at}
 use Rattle.net_board.proofs.NodeLaws.{get_some}
 use Rattle.op_board.specs.OperationNets.{OperationNet, needed, operation_node}
-use Rattle.op_net.specs.Waits.{node_total}
+use Rattle.operation_tables.specs.Waits.{node_total}
 use Rattle.fork_board.specs.ForkTokens.{is_load_node}
 use Rattle.read_forks.specs.KeptLoads.{AreTables, opened_of}
 use Rattle.read_forks.specs.LoadChanges.{IsPut}

@@ -7,7 +7,7 @@ use Rattle.list_laws.proofs.Counts.{count_every}
 use Rattle.list_laws.proofs.Members.{list_any_member}
 use Rattle.net_board.specs.Nodes.{graph_in}
 use Rattle.op_board.specs.OperationNets.{OperationNet}
-use Rattle.op_net.specs.Waits.{IsNodeBefore}
+use Rattle.operation_tables.specs.Waits.{IsNodeBefore}
 use Rattle.fork_board.specs.Chains.{ComeOnce, GroupsEnd}
 use Rattle.fork_board.specs.ForkTokens.{with_load}
 use Rattle.fork_board.specs.LoadGroups.{Site, Spot, behind_group, group_at, is_among, is_site, load_at, loads_within, most_loads, site, spot, spot_after, spot_behind}

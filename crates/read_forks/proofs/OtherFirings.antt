@@ -13,7 +13,7 @@ use Rattle.op_board.proofs.NeededLines.{needed_has}
 use Rattle.op_board.proofs.OperationFirings.{FiringFacts}
 use Rattle.op_board.proofs.OperationLaws.{firing_facts}
 use Rattle.op_board.proofs.OperationNumbers.{IsOperationNamed, operation_named, switch_line}
-use Rattle.op_net.specs.Waits.{goes_through}
+use Rattle.operation_tables.specs.Waits.{goes_through}
 use Rattle.fork_board.specs.ForkTokens.{ForkTokens, Standing, is_load_node, standing, unforked}
 use Rattle.fork_board.specs.LoadGroups.{group_at, is_among, most_loads, spot}
 use Rattle.fork_board.specs.SoundForks.{ForksCanCome}

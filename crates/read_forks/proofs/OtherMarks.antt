@@ -4,7 +4,7 @@ use Rattle.firing.specs.Moves.{CanFire}
 use Rattle.firing.specs.ReadySet.{has}
 use Rattle.op_board.specs.OperationNets.{OperationNet, operation_node}
 use Rattle.op_board.specs.OperationTokens.{OperationTokens}
-use Rattle.op_net.specs.Waits.{node_total}
+use Rattle.operation_tables.specs.Waits.{node_total}
 use Rattle.fork_board.specs.ForkTokens.{ForkTokens, fork_moves, is_load_node}
 use Rattle.fork_board.specs.SoundForks.{ForksCanCome}
 use Rattle.read_forks.specs.Retests.{takes}

@@ -4,8 +4,8 @@ use Rattle.closed_walks.specs.Graph.{to}
 use Rattle.net_board.specs.Nodes.{graph_in}
 use Rattle.op_board.specs.OperationFacts.{IsNeededAt, OperationFacts}
 use Rattle.op_board.specs.OperationNets.{OperationNet}
-use Rattle.op_net.specs.PlanFacts.{PlanFacts}
-use Rattle.op_net.proofs.NodesBefore.{operation_before}
+use Rattle.operation_tables.specs.PlanFacts.{PlanFacts}
+use Rattle.operation_tables.proofs.NodesBefore.{operation_before}
 use Rattle.fork_board.proofs.ForkFirings.{both_ways}
 use Rattle.read_forks.proofs.GroupStops.{StandAlone}
 

@@ -7,7 +7,7 @@ use Rattle.net_board.proofs.ListPlaces.{get_set_other, length_slice_set, same_or
 use Rattle.op_board.specs.OperationNets.{OperationNet}
 use Rattle.op_board.specs.OperationTokens.{OperationTokens}
 use Rattle.op_board.specs.SoundOperationNets.{OperationsCanCome}
-use Rattle.op_net.specs.PlacesView.{line_put}
+use Rattle.operation_places.specs.PlacesView.{line_put}
 use Rattle.read_forks.proofs.LinesRead.{edge_put_there}
 
 module _ (x : OperationNet) (m : OperationTokens) (line edge passed : ℕ) (exists : edge < edge_count (graph_in x.net)) (inside : line < length m.tokens.lines) where

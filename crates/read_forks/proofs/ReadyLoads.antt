@@ -6,7 +6,7 @@ use Rattle.firing.specs.declared.system.NodeName.TheVariants.{Op}
 use Rattle.op_board.specs.OperationNets.{OperationNet, needed, operation_node}
 use Rattle.op_board.specs.OperationTokens.{OperationTokens}
 use Rattle.op_board.proofs.OperationNumbers.{IsOperationNamed, operation_named}
-use Rattle.op_net.specs.Waits.{node_total}
+use Rattle.operation_tables.specs.Waits.{node_total}
 use Rattle.fork_board.specs.ForkTokens.{fork_moves, is_load_node, is_open, standing}
 use Rattle.fork_board.proofs.ForkNodes.{IsLoadNamed, load_named}
 use Rattle.read_forks.specs.KeptLoads.{AreKept, opened_of}

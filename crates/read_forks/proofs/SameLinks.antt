@@ -130,7 +130,7 @@ module _ (old new : List Link) (same : AreSameLinks old new) where
         own n link w =
             let o : IsOwnLink x steps n w.was = are.own n w.was w.at in
             record {
-              node = subst (λ (k : ℕ). k < Rattle.op_net.specs.Waits.node_total x) (sym w.node) o.node;
+              node = subst (λ (k : ℕ). k < Rattle.operation_tables.specs.Waits.node_total x) (sym w.node) o.node;
               from = λ step at. o.from step (ap (slice_get steps) (sym w.node) ∙ at);
               below = λ step at. o.below step (ap (slice_get steps) (sym w.node) ∙ at);
             }

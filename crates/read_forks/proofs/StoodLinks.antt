@@ -8,7 +8,7 @@ use Rattle.net_board.specs.Nodes.{graph_in, kind_in}
 use Rattle.net_board.proofs.NodeLaws.{get_some}
 use Rattle.op_board.specs.OperationNets.{OperationNet, all_operation_nodes, first_operation, operation_count, operation_node}
 use Rattle.op_board.proofs.OperationNumbers.{operation_name, operation_stands}
-use Rattle.op_net.specs.Waits.{IsNodeBefore, node_total}
+use Rattle.operation_tables.specs.Waits.{IsNodeBefore, node_total}
 use Rattle.fork_board.specs.ForkTokens.{is_load_node}
 use Rattle.fork_board.specs.LoadGroups.{Site, Spot, load_at, site, spot, spot_after}
 use Rattle.fork_board.proofs.ForkLines.{same_site}

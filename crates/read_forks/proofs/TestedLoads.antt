@@ -14,7 +14,7 @@ use Rattle.op_board.proofs.OperationTakers.{takes_among}
 use Rattle.op_board.proofs.OperationsApart.{operation_get}
 use Rattle.op_board.proofs.ValueTaking.{taken_later}
 use Rattle.op_net.specs.ApartLoads.{giver_of}
-use Rattle.op_net.specs.Waits.{one_if, operands_from, takes_from}
+use Rattle.operation_tables.specs.Waits.{one_if, operands_from, takes_from}
 use Rattle.fork_board.proofs.ForksApart.{acting_with}
 use Rattle.read_forks.specs.Retests.{takes}
 

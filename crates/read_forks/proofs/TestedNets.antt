@@ -7,7 +7,7 @@ use Rattle.op_board.specs.OperationNets.{OperationNet, operation_node}
 use Rattle.op_board.specs.OperationTokens.{OperationTokens, operation_moves}
 use Rattle.op_net.specs.ApartLoads.{MarksOthers, apart_of, flags_of}
 use Rattle.op_net.specs.NetView.{marking_of as operations_on, net_of as net_in}
-use Rattle.op_net.specs.Waits.{node_total}
+use Rattle.operation_tables.specs.Waits.{node_total}
 use Rattle.op_net.specs.declared.net.OpNet.{OpNet}
 use Rattle.fork_board.specs.ForkTokens.{fork_moves, is_load_node}
 use Rattle.fork_board.proofs.ForkNodes.{other_ready}

@@ -3,7 +3,7 @@ use Rattle.std.specs.Prelude.{◌≡◌, ◌<◌, ℕ}
 use Rattle.op_board.specs.OperationNets.{operation_node}
 use Rattle.op_net.specs.ApartLoads.{is_apart}
 use Rattle.op_net.specs.NetView.{net_of}
-use Rattle.op_net.specs.Waits.{node_total}
+use Rattle.operation_tables.specs.Waits.{node_total}
 use Rattle.op_net.specs.declared.net.OpNet.{OpNet}
 use Rattle.fork_board.specs.ForkTokens.{is_load_node}
 

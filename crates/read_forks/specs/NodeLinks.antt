@@ -4,7 +4,7 @@ use Rattle.std.specs.List.{list_any, range_with_len}
 use Rattle.firing.specs.declared.system.NodeName.{NodeName}
 use Rattle.firing.specs.declared.system.NodeName.TheVariants.{Act, Merge, Op, Switch}
 use Rattle.op_board.specs.OperationNets.{OperationNet, needed, operation_node}
-use Rattle.op_net.specs.Waits.{node_total, one_if, takes_from}
+use Rattle.operation_tables.specs.Waits.{node_total, one_if, takes_from}
 use Rattle.fork_board.specs.ForkTokens.{is_load_node}
 use Rattle.read_forks.specs.Retests.{takes}
 use Rattle.read_forks.specs.RisingLinks.{AreRising}

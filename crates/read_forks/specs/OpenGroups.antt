@@ -7,7 +7,7 @@ use Rattle.net_board.specs.Nodes.{graph_in}
 use Rattle.net_board.specs.Tokens.{edge_of}
 use Rattle.op_board.specs.OperationNets.{OperationNet, needed, operation_node}
 use Rattle.op_board.specs.OperationTokens.{OperationTokens, passed_by}
-use Rattle.op_net.specs.Waits.{IsNodeBefore, failing, node_total}
+use Rattle.operation_tables.specs.Waits.{IsNodeBefore, failing, node_total}
 use Rattle.fork_board.specs.LoadGroups.{Site, Spot, behind_group, group_at, spot}
 use Rattle.fork_board.specs.ForkTokens.{ForkTokens, is_load_node}
 use Rattle.read_forks.specs.LoadChanges.{Loaded}

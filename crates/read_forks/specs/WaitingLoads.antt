@@ -8,7 +8,7 @@ use Rattle.op_board.specs.OperationNets.{OperationNet, operation_at, operation_n
 use Rattle.op_board.specs.OperationTokens.{OperationTokens, is_given, value_at}
 use Rattle.op_net.specs.ApartLoads.{apart_of, flags_of}
 use Rattle.op_net.specs.NetView.{marking_of, net_of}
-use Rattle.op_net.specs.Waits.{node_total}
+use Rattle.operation_tables.specs.Waits.{node_total}
 use Rattle.op_net.specs.declared.net.OpNet.{OpNet}
 use Rattle.fork_board.specs.ForkTokens.{is_load_node}
 

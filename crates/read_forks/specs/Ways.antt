@@ -7,8 +7,8 @@ use Rattle.firing.specs.declared.system.NodeName.{NodeName}
 use Rattle.firing.specs.declared.system.NodeName.TheVariants.{Op}
 use Rattle.net_board.specs.Nodes.{graph_in}
 use Rattle.op_board.specs.OperationNets.{OperationNet, first_operation, is_last_at, operation_at, operation_node}
-use Rattle.op_net.specs.OperationRows.{IsNextNeed}
-use Rattle.op_net.specs.Waits.{IsNodeBefore}
+use Rattle.operation_tables.specs.OperationRows.{IsNextNeed}
+use Rattle.operation_tables.specs.Waits.{IsNodeBefore}
 use Rattle.fork_board.specs.LoadGroups.{is_load, load_at, site, spot}
 use Rattle.read_forks.specs.declared.steps.Link.{Link}
 use Rattle.read_forks.specs.declared.ways.Way.{Way}

@@ -10,7 +10,7 @@ ghost use Rattle.op_board.specs.OperationTokens.{passed_by};
 ghost use Rattle.op_board.specs.SoundOperationNets.{IsOperationNet};
 ghost use Rattle.op_net.specs.ApartLoads.{KeepsApart, flags_of};
 ghost use Rattle.op_net.specs.NetView.{marking_of as operations_on, net_of as net_in};
-ghost use Rattle.op_net.specs.Waits.{IsNodeBefore, node_total};
+ghost use Rattle.operation_tables.specs.Waits.{IsNodeBefore, node_total};
 ghost use Rattle.fork_board.specs.ForkTokens.{is_load_node};
 ghost use Rattle.read_forks.specs.KeptLoads.{AreKept, AreOpened, IsOpenForNone, opened_of};
 ghost use Rattle.read_forks.specs.LedLines.{IsLedOn};

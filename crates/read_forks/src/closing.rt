@@ -7,7 +7,7 @@ ghost use Rattle.op_board.specs.OperationNets.{needed, operation_node};
 ghost use Rattle.op_board.specs.SoundOperationNets.{OperationsCanCome};
 ghost use Rattle.op_net.specs.ApartLoads.{KeepsApart};
 ghost use Rattle.op_net.specs.NetView.{marking_of as operations_on, net_of as net_in};
-ghost use Rattle.op_net.specs.Waits.{node_total};
+ghost use Rattle.operation_tables.specs.Waits.{node_total};
 ghost use Rattle.fork_board.specs.Chains.{ComeOnce, GroupsEnd};
 ghost use Rattle.read_forks.specs.KeptLoads.{AreClosedFor, AreLinesKept, opened_of};
 ghost use Rattle.read_forks.specs.LoadChanges.{IsPut};

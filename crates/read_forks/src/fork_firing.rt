@@ -6,7 +6,7 @@ ghost use Rattle.firing.specs.Moves.{FiredIs, newest};
 ghost use Rattle.op_board.specs.OperationNets.{operation_node};
 ghost use Rattle.op_net.specs.ApartLoads.{IsCounting, MarksOthers, flags_of};
 ghost use Rattle.op_net.specs.NetView.{net_of as net_in};
-ghost use Rattle.op_net.specs.Waits.{node_total};
+ghost use Rattle.operation_tables.specs.Waits.{node_total};
 ghost use Rattle.fork_board.specs.ForkTokens.{fork_course, fork_moves, is_load_node};
 ghost use Rattle.fork_board.specs.SoundForks.{ForksCanCome};
 ghost use Rattle.read_forks.specs.ForkView.{KeepsSet, marking_of, net_of, place_of};

@@ -12,7 +12,7 @@ ghost use Rattle.op_board.specs.OperationNets.{operation_count};
 ghost use Rattle.op_board.specs.SoundOperationNets.{IsOperationNet};
 ghost use Rattle.op_net.specs.ApartLoads.{IsUncounted};
 ghost use Rattle.op_net.specs.NetView.{marking_of as operations_on, net_of as net_in};
-ghost use Rattle.op_net.specs.OperationParts.{AreOperationParts};
+ghost use Rattle.operation_tables.specs.OperationParts.{AreOperationParts};
 ghost use Rattle.fork_board.specs.ForkTokens.{first_fork_tokens, fork_moves};
 ghost use Rattle.fork_board.specs.SoundForks.{ForksCanCome};
 ghost use Rattle.read_forks.specs.KeptLoads.{AreKept, IsOpenForNone, opened_of};

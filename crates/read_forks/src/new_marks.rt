@@ -3,7 +3,7 @@
 ghost use Rattle.std.specs.Prelude.{◌≡◌, ◌<◌, length, IfOk};
 ghost use Rattle.op_board.specs.OperationNets.{operation_node};
 ghost use Rattle.op_net.specs.NetView.{net_of};
-ghost use Rattle.op_net.specs.Waits.{node_total};
+ghost use Rattle.operation_tables.specs.Waits.{node_total};
 ghost use Rattle.fork_board.specs.ForkTokens.{is_load_node};
 ghost use Rattle.read_forks.specs.LoadSpots.{IsLoadAt};
 ghost use Rattle.read_forks.specs.LoadFlags.{AreLoadFlags};

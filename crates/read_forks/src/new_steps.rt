@@ -7,7 +7,7 @@ ghost use Rattle.net_board.specs.Nodes.{graph_in};
 ghost use Rattle.op_board.specs.OperationNets.{is_last_at, needed, operation_at, operation_count, operation_node};
 ghost use Rattle.op_board.specs.OperationTokens.{OperationTokens};
 ghost use Rattle.op_net.specs.NetView.{net_of};
-ghost use Rattle.op_net.specs.Waits.{node_total};
+ghost use Rattle.operation_tables.specs.Waits.{node_total};
 ghost use Rattle.fork_board.specs.ForkTokens.{is_load_node};
 ghost use Rattle.read_forks.specs.KeptLoads.{AreKept, IsOpenForNone, opened_of};
 ghost use Rattle.read_forks.specs.LoadFlags.{AreLoadFlags};

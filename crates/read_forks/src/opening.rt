@@ -13,7 +13,7 @@ ghost use Rattle.read_forks.specs.MarkedNets.{AreLoadsApart};
 ghost use Rattle.read_forks.specs.WaitingLoads.{IsRemarked, KeepsMarks};
 ghost use Rattle.net_board.specs.Tokens.{edge_of};
 ghost use Rattle.op_board.specs.OperationTokens.{passed_by};
-ghost use Rattle.op_net.specs.Waits.{IsNodeBefore};
+ghost use Rattle.operation_tables.specs.Waits.{IsNodeBefore};
 ghost use Rattle.fork_board.specs.LoadGroups.{group_at, load_at, site, spot};
 ghost use Rattle.read_forks.specs.KeptLoads.{AreKept, AreOpened, AreTables, IsOpenForNone, opened_of};
 ghost use Rattle.read_forks.specs.LoadChanges.{IsPut};

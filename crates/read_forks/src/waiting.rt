@@ -5,7 +5,7 @@ ghost use Rattle.firing.specs.declared.system.NodeName.TheVariants.{Op};
 ghost use Rattle.op_board.specs.OperationNets.{operation_node};
 ghost use Rattle.op_net.specs.ApartLoads.{flags_of};
 ghost use Rattle.op_net.specs.NetView.{marking_of as operations_on, net_of as net_in};
-ghost use Rattle.op_net.specs.Waits.{node_total};
+ghost use Rattle.operation_tables.specs.Waits.{node_total};
 ghost use Rattle.fork_board.specs.ForkTokens.{is_load_node};
 ghost use Rattle.read_forks.specs.MarkedNets.{AreLoadsApart};
 ghost use Rattle.read_forks.specs.WaitingLoads.{IsRemarked, KeepsMarks, waits_for_nothing};

@@ -1,6 +1,6 @@
 use Rattle.std.proofs.Common.{◌≡◌, ◌+◌, ℕ, List, length, ap, arith}
 use Rattle.op_board.specs.OperationNets.{all_operation_nodes}
-use Rattle.op_net.specs.GraphView.{operations_of}
+use Rattle.operation_tables.specs.GraphView.{operations_of}
 use Rattle.graph_texts.specs.GraphText.{node_line}
 use Rattle.graph_texts.proofs.Texts.{fault_at_line, line_told, on_error}
 use Rattle.graph_texts.proofs.graph_nodes.tell_nodes.Goals as goal

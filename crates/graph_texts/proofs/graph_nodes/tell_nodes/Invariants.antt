@@ -1,6 +1,6 @@
 use Rattle.std.specs.Prelude.{flat_map}
 use Rattle.std.specs.List.{range_with_len}
-use Rattle.op_net.specs.GraphView.{operations_of}
+use Rattle.operation_tables.specs.GraphView.{operations_of}
 use Rattle.graph_texts.specs.GraphText.{node_line}
 use Rattle.graph_texts.proofs.Texts.{IsTelling}
 use Rattle.graph_texts.proofs.graph_nodes.tell_nodes.Given as goal

@@ -1,7 +1,7 @@
 use Rattle.std.proofs.Common.{◌≡◌, ◌+◌, ◌++◌, ◌∙◌, drop, ap, sym, arith}
 use Rattle.std.specs.Prelude.{flat_map}
 use Rattle.op_board.specs.OperationNets.{operation_node}
-use Rattle.op_net.specs.GraphView.{operations_of}
+use Rattle.operation_tables.specs.GraphView.{operations_of}
 use Rattle.graph_texts.specs.GivenText.{given_text}
 use Rattle.graph_texts.specs.GraphText.{operands_text}
 use Rattle.graph_texts.proofs.NodesTold.{given_after, given_first, given_next, given_of, given_whole, operands_given}

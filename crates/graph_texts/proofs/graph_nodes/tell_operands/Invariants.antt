@@ -1,5 +1,5 @@
 use Rattle.op_board.specs.OperationNets.{operation_node}
-use Rattle.op_net.specs.GraphView.{operations_of}
+use Rattle.operation_tables.specs.GraphView.{operations_of}
 use Rattle.graph_texts.proofs.NodesTold.{given_first, given_of}
 use Rattle.graph_texts.proofs.Texts.{IsTelling}
 use Rattle.graph_texts.proofs.graph_nodes.tell_operands.Given as goal

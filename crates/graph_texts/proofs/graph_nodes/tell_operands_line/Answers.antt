@@ -1,7 +1,7 @@
 use Rattle.std.proofs.Common.{[], ◌∷◌, ◌++◌, codes}
 use Rattle.std.specs.Fmt.{decimal}
 use Rattle.op_board.specs.OperationNets.{operation_node}
-use Rattle.op_net.specs.GraphView.{operations_of}
+use Rattle.operation_tables.specs.GraphView.{operations_of}
 use Rattle.graph_texts.specs.GraphText.{operands_text}
 use Rattle.graph_texts.proofs.Telling.{fault_before, fault_more, told_more}
 use Rattle.graph_texts.proofs.Texts.{on_error, then_on_error, then_on_ok}

@@ -4,7 +4,7 @@ use Rattle.std.specs.Fmt.{decimal}
 use Rattle.std.specs.List.{range_with_len}
 use Rattle.class_set.specs.ClassSet.{holds}
 use Rattle.op_board.specs.OperationNets.{needed, operation_at, operation_node}
-use Rattle.op_net.specs.GraphView.{operations_of}
+use Rattle.operation_tables.specs.GraphView.{operations_of}
 use Rattle.graph_texts.specs.GraphText.{numbers_text}
 use Rattle.graph_texts.specs.OperationNames.{work_name}
 use Rattle.graph_texts.proofs.NodesTold.{lines_told, work_told}

@@ -3,7 +3,7 @@ use Rattle.std.specs.Fmt.{decimal}
 use Rattle.df_io.specs.TextBuffer.{IsWrittenBut}
 use Rattle.df_io.proofs.LongTexts.{all_held}
 use Rattle.op_board.specs.OperationNets.{operation_node}
-use Rattle.op_net.specs.GraphView.{operations_of}
+use Rattle.operation_tables.specs.GraphView.{operations_of}
 use Rattle.graph_texts.specs.GraphText.{has_operands, operands_text, value_text}
 use Rattle.graph_texts.proofs.NodesTold.{is_operation, no_line, some_line}
 use Rattle.graph_texts.proofs.Telling.{begun, begun_fault}

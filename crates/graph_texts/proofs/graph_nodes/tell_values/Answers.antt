@@ -1,7 +1,7 @@
 use Rattle.std.proofs.Common.{◌≡◌, ◌+◌, ◌++◌, ℕ, List, length, ap, subst, arith}
 use Rattle.df_io.specs.TextBuffer.{IsWrittenBut}
 use Rattle.op_board.specs.OperationNets.{all_operation_nodes, operation_node}
-use Rattle.op_net.specs.GraphView.{operations_of}
+use Rattle.operation_tables.specs.GraphView.{operations_of}
 use Rattle.graph_texts.specs.GraphText.{value_text}
 use Rattle.graph_texts.proofs.Texts.{fault_at_line, line_told, lines, on_error}
 use Rattle.graph_texts.proofs.graph_nodes.tell_values.Goals as goal

@@ -3,7 +3,7 @@ use Rattle.closed_walks.specs.Graph.{Graph, edge_count}
 use Rattle.cfg_build.specs.Joined.{FlowGraph}
 use Rattle.dep_routing.specs.Routing.{Routing}
 use Rattle.net_board.specs.Nodes.{NetOf, graph_in}
-use Rattle.op_net.specs.GraphView.{operations_of}
+use Rattle.operation_tables.specs.GraphView.{operations_of}
 use Rattle.graph_texts.specs.GraphText.{hop_lines, line_lines, node_lines, size_line, value_lines, wire_lines}
 use Rattle.graph_texts.specs.EdgeTables.{AreBypasses, AreWires}
 use Rattle.graph_texts.proofs.GraphParts.{hops_told, size_text, size_told, wires_told}

@@ -4,7 +4,7 @@ use Rattle.cfg_build.specs.Joined.{FlowGraph}
 use Rattle.df_io.specs.TextBuffer.{IsWrittenBut}
 use Rattle.df_io.specs.Write.{AppendsPrefix}
 use Rattle.df_io.proofs.LongTexts.{all_out, fault_at_end}
-use Rattle.op_net.specs.GraphView.{operations_of}
+use Rattle.operation_tables.specs.GraphView.{operations_of}
 use Rattle.graph_texts.specs.GraphText.{graph_text}
 use Rattle.graph_texts.proofs.Texts.{on_error, then_on_error, then_on_ok}
 use Rattle.graph_texts.proofs.graph_text.write_graph.Goals as goal

@@ -1,6 +1,6 @@
 use Rattle.std.proofs.Common.{◌<◌, ◌^◌, arith}
-use Rattle.op_net.specs.BoardView.{operation_net_on}
-use Rattle.op_net.proofs.CountedAhead.{anew_ahead, anew_apart, anew_few, anew_marks, anew_right}
+use Rattle.operation_tables.specs.BoardView.{operation_net_on}
+use Rattle.operation_places.proofs.CountedAhead.{anew_ahead, anew_apart, anew_few, anew_marks, anew_right}
 use Rattle.op_net.proofs.PlacesKept.{same_kept}
 use Rattle.op_net.proofs.net_firing.count_ahead.Goals as goal
 

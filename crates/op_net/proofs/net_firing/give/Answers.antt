@@ -3,13 +3,13 @@ use Rattle.std.specs.List.{list_all}
 use Rattle.std.proofs.lemmas.Int.{to_z-of_z}
 use Rattle.op_board.specs.OperationNets.{needed}
 use Rattle.op_board.specs.OperationTokens.{OperationTokens, stands_before}
-use Rattle.op_net.specs.BoardView.{operation_net_on}
+use Rattle.operation_tables.specs.BoardView.{operation_net_on}
 use Rattle.op_net.specs.FiringChanges.{given_on, gone_on}
-use Rattle.op_net.specs.PlacesView.{IsAheadBy, MakesUp, standing}
-use Rattle.op_net.specs.StandingChanges.{lines_moved}
-use Rattle.op_net.proofs.CountsKept.{keeps_more}
+use Rattle.operation_places.specs.PlacesView.{IsAheadBy, MakesUp, standing}
+use Rattle.operation_places.specs.StandingChanges.{lines_moved}
+use Rattle.operation_places.proofs.CountsKept.{keeps_more}
 use Rattle.op_net.proofs.MadeUp.{ahead_left, ahead_less, makes_more}
-use Rattle.op_net.proofs.NodeNames.{IsOperationAt, operation_at_node}
+use Rattle.operation_tables.proofs.NodeNames.{IsOperationAt, operation_at_node}
 use Rattle.op_net.proofs.PlacesKept.{given_kept, moved_kept}
 use Rattle.op_net.proofs.RowReads.{row_edge, row_edge_exists, taker_after, taker_within}
 use Rattle.op_net.proofs.net_firing.give.Goals as goal

@@ -1,10 +1,10 @@
 use Rattle.std.proofs.Common.{◌≡◌, ◌+◌, ℕ, true, false, subst, sym, ◌∙◌, arith}
 use Rattle.op_board.specs.Operations.{is_decision}
 use Rattle.op_board.specs.OperationNets.{first_operation, operation_at}
-use Rattle.op_net.specs.BoardView.{operation_net_on}
-use Rattle.op_net.specs.OperationRows.{room_of}
-use Rattle.op_net.specs.PlacesView.{IsAheadBy, MakesUp, standing}
-use Rattle.op_net.proofs.CountsKept.{keeps_own}
+use Rattle.operation_tables.specs.BoardView.{operation_net_on}
+use Rattle.operation_tables.specs.OperationRows.{room_of}
+use Rattle.operation_places.specs.PlacesView.{IsAheadBy, MakesUp, standing}
+use Rattle.operation_places.proofs.CountsKept.{keeps_own}
 use Rattle.op_net.proofs.FiringParts.{left_if, left_unless, room_clear}
 use Rattle.op_net.proofs.PlacesKept.{filled_kept}
 use Rattle.op_net.proofs.RowReads.{row_decides}

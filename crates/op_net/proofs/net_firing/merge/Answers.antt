@@ -4,14 +4,14 @@ use Rattle.net_board.specs.Tokens.{edge_of, led_from}
 use Rattle.net_tables.proofs.TokenLineLemmas.{led_below}
 use Rattle.op_board.specs.OperationNets.{operation_node}
 use Rattle.op_board.specs.OperationTokens.{OperationTokens, passed_by}
-use Rattle.op_net.specs.BoardView.{operation_net_on}
-use Rattle.op_net.specs.PlacesView.{line_put, standing}
-use Rattle.op_net.specs.Waits.{stands_at}
-use Rattle.op_net.proofs.CountedAhead.{ahead_counted}
-use Rattle.op_net.proofs.CountsKept.{keeps_more}
+use Rattle.operation_tables.specs.BoardView.{operation_net_on}
+use Rattle.operation_places.specs.PlacesView.{line_put, standing}
+use Rattle.operation_tables.specs.Waits.{stands_at}
+use Rattle.operation_places.proofs.CountedAhead.{ahead_counted}
+use Rattle.operation_places.proofs.CountsKept.{keeps_more}
 use Rattle.op_net.proofs.LedLines.{merge_marking, merge_stands, merge_through}
-use Rattle.op_net.proofs.NodeNames.{IsMergeAt, merge_at_node}
-use Rattle.op_net.proofs.NodesBefore.{one_before}
+use Rattle.operation_tables.proofs.NodeNames.{IsMergeAt, merge_at_node}
+use Rattle.operation_tables.proofs.NodesBefore.{one_before}
 use Rattle.op_net.proofs.OperatedNets.{ahead_by}
 use Rattle.op_net.proofs.PlacesKept.{led_kept}
 use Rattle.op_net.proofs.net_firing.merge.Goals as goal

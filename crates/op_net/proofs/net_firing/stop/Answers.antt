@@ -1,12 +1,12 @@
 use Rattle.std.proofs.Common.{◌≡◌, ◌<◌, ◌+◌, ◌==◌, ℕ, true, length, refl, subst, sym, ◌∙◌, arith}
 use Rattle.op_board.specs.OperationNets.{needed}
-use Rattle.op_net.specs.BoardView.{operation_net_on}
-use Rattle.op_net.specs.PlacesView.{IsAheadBy, MakesUp, standing}
-use Rattle.op_net.specs.Waits.{node_total, one_if, waits}
-use Rattle.op_net.proofs.CountedAhead.{ahead_after, less_marks, less_right, less_some}
-use Rattle.op_net.proofs.CountsKept.{keeps_more}
+use Rattle.operation_tables.specs.BoardView.{operation_net_on}
+use Rattle.operation_places.specs.PlacesView.{IsAheadBy, MakesUp, standing}
+use Rattle.operation_tables.specs.Waits.{node_total, one_if, waits}
+use Rattle.operation_places.proofs.CountedAhead.{ahead_after, less_marks, less_right, less_some}
+use Rattle.operation_places.proofs.CountsKept.{keeps_more}
 use Rattle.op_net.proofs.MadeUp.{ahead_left, ahead_less, makes_more}
-use Rattle.op_net.proofs.NodeNames.{IsOperationAt, operation_at_node}
+use Rattle.operation_tables.proofs.NodeNames.{IsOperationAt, operation_at_node}
 use Rattle.op_net.proofs.OperatedNets.{ahead_other}
 use Rattle.op_net.proofs.PlacesKept.{dropped_kept, same_kept}
 use Rattle.op_net.proofs.RowReads.{row_edge, row_edge_exists}

@@ -8,18 +8,18 @@ use Rattle.net_board.specs.WokenNodes.{switch_number}
 use Rattle.net_tables.proofs.TokenLineLemmas.{led_below, read_edge}
 use Rattle.op_board.specs.OperationNets.{operation_node}
 use Rattle.op_board.specs.OperationTokens.{OperationTokens, passed_by}
-use Rattle.op_net.specs.BoardView.{operation_net_on}
-use Rattle.op_net.specs.PlacesView.{IsCountedAhead, edge_put, line_put, standing}
-use Rattle.op_net.specs.SoundPlaces.{ArePlaces}
-use Rattle.op_net.specs.Waits.{AreSwitchNodes, IsSwitchOf, stands_at}
-use Rattle.op_net.proofs.CountedAhead.{ahead_counted}
-use Rattle.op_net.proofs.CountsKept.{keeps_more}
+use Rattle.operation_tables.specs.BoardView.{operation_net_on}
+use Rattle.operation_places.specs.PlacesView.{IsCountedAhead, edge_put, line_put, standing}
+use Rattle.operation_places.specs.SoundPlaces.{ArePlaces}
+use Rattle.operation_tables.specs.Waits.{AreSwitchNodes, IsSwitchOf, stands_at}
+use Rattle.operation_places.proofs.CountedAhead.{ahead_counted}
+use Rattle.operation_places.proofs.CountsKept.{keeps_more}
 use Rattle.op_net.proofs.LedLines.{IsReadySwitch, ready_switch, switch_marking, switch_stands, switch_through}
-use Rattle.op_net.proofs.NodeNames.{IsSwitchAt, switch_at_node}
-use Rattle.op_net.proofs.NodesBefore.{one_before}
+use Rattle.operation_tables.proofs.NodeNames.{IsSwitchAt, switch_at_node}
+use Rattle.operation_tables.proofs.NodesBefore.{one_before}
 use Rattle.op_net.proofs.OperatedNets.{ahead_by}
 use Rattle.op_net.proofs.PlacesKept.{cleared_kept, led_kept}
-use Rattle.op_net.proofs.SwitchNodes.{some_operations, switch_nodes}
+use Rattle.operation_tables.proofs.SwitchNodes.{some_operations, switch_nodes}
 use Rattle.op_net.proofs.net_firing.switch.Goals as goal
 
 pub switch_number-switch-requires : goal.switch_number-switch-requires

@@ -2,12 +2,12 @@ use Rattle.std.proofs.Common.{◌≡◌, ◌+◌, ℕ, true, length, subst, sym,
 use Rattle.std.specs.List.{list_all}
 use Rattle.op_board.specs.OperationNets.{first_operation, needed}
 use Rattle.op_board.specs.OperationTokens.{OperationTokens, stands_before}
-use Rattle.op_net.specs.BoardView.{operation_net_on}
+use Rattle.operation_tables.specs.BoardView.{operation_net_on}
 use Rattle.op_net.specs.FiringChanges.{room_left}
-use Rattle.op_net.specs.OperationRows.{room_of}
-use Rattle.op_net.specs.PlacesView.{standing}
-use Rattle.op_net.specs.StandingChanges.{lines_moved}
-use Rattle.op_net.proofs.CountsKept.{keeps_more}
+use Rattle.operation_tables.specs.OperationRows.{room_of}
+use Rattle.operation_places.specs.PlacesView.{standing}
+use Rattle.operation_places.specs.StandingChanges.{lines_moved}
+use Rattle.operation_places.proofs.CountsKept.{keeps_more}
 use Rattle.op_net.proofs.MadeUp.{ahead_left, ahead_less, makes_more}
 use Rattle.op_net.proofs.PlacesKept.{moved_kept}
 use Rattle.op_net.proofs.net_firing.tell.Goals as goal

@@ -9,10 +9,10 @@ use Rattle.op_board.specs.OperationNets.{operation_at}
 use Rattle.op_board.specs.OperationTokens.{operand_in}
 use Rattle.operation_lists.specs.Seen.{operand_seen}
 use Rattle.operation_effects.specs.Tasks.{TakesOperands, task_room}
-use Rattle.op_net.specs.BoardView.{operation_net_on}
+use Rattle.operation_tables.specs.BoardView.{operation_net_on}
 use Rattle.op_net.specs.FiringChanges.{remembered}
-use Rattle.op_net.specs.OperationRows.{IsRow}
-use Rattle.op_net.specs.PlacesView.{standing}
+use Rattle.operation_tables.specs.OperationRows.{IsRow}
+use Rattle.operation_places.specs.PlacesView.{standing}
 use Rattle.op_net.proofs.FiringParts.{args_same}
 use Rattle.op_net.proofs.PlacesKept.{taken_kept}
 use Rattle.op_net.proofs.TaskPropositions.{can_prop, result_prop, takes_prop}

@@ -6,8 +6,8 @@ use Rattle.cfg_build.specs.Passes.{out}
 use Rattle.net_board.specs.Nodes.{graph_in}
 use Rattle.net_tables.proofs.LookupLemmas.{some_edge}
 use Rattle.net_tables.proofs.TableLemmas.{out_exists}
-use Rattle.op_net.specs.BoardView.{operation_net_on}
-use Rattle.op_net.specs.OperationRows.{IsRow}
+use Rattle.operation_tables.specs.BoardView.{operation_net_on}
+use Rattle.operation_tables.specs.OperationRows.{IsRow}
 use Rattle.op_net.proofs.operating.chosen_edge.Goals as goal
 
 pub returns-then-choice-eq0-clause-edge : goal.returns-then-choice-eq0-clause-edge

@@ -5,14 +5,14 @@ use Rattle.net_board.proofs.ListPlaces.{length_slice_set}
 use Rattle.net_board.specs.Nodes.{switches}
 use Rattle.op_board.specs.OperationNets.{first_operation}
 use Rattle.op_board.specs.OperationTokens.{OperationTokens}
-use Rattle.op_net.specs.BoardView.{operation_net_on}
+use Rattle.operation_tables.specs.BoardView.{operation_net_on}
 use Rattle.op_net.specs.PlaceSteps.{edge_left}
-use Rattle.op_net.specs.PlacesView.{IsAheadBy, IsCountedAhead, MakesUp, standing}
-use Rattle.op_net.specs.StandingChanges.{room_filled}
+use Rattle.operation_places.specs.PlacesView.{IsAheadBy, IsCountedAhead, MakesUp, standing}
+use Rattle.operation_places.specs.StandingChanges.{room_filled}
 use Rattle.op_net.proofs.MadeUp.{leaves_ahead, leaves_end, leaves_next}
-use Rattle.op_net.proofs.CountsKept.{keeps_more, keeps_own}
+use Rattle.operation_places.proofs.CountsKept.{keeps_more, keeps_own}
 use Rattle.op_net.proofs.FilledRoom.{clear_at, first_inside, left_same, room_left, row_at, row_next, row_none, switch_decided, switch_within, switches_row}
-use Rattle.op_net.proofs.FoldedLists.{fold_end, fold_next}
+use Rattle.operation_places.proofs.FoldedLists.{fold_end, fold_next}
 use Rattle.op_net.proofs.TakenOperands.{own_node}
 use Rattle.op_net.proofs.operating.fill_room.Goals as goal
 

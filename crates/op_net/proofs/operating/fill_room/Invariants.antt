@@ -3,10 +3,10 @@ use Rattle.std.specs.List.{range_with_len}
 use Rattle.net_board.specs.Nodes.{nodes_of, switches}
 use Rattle.net_board.specs.Tokens.{left_for}
 use Rattle.op_board.specs.OperationNets.{first_operation}
-use Rattle.op_net.specs.BoardView.{operation_net_on}
+use Rattle.operation_tables.specs.BoardView.{operation_net_on}
 use Rattle.op_net.specs.PlaceSteps.{edge_left}
-use Rattle.op_net.specs.PlacesView.{KeepsCounts, standing}
-use Rattle.op_net.specs.StandingChanges.{room_filled}
+use Rattle.operation_places.specs.PlacesView.{KeepsCounts, standing}
+use Rattle.operation_places.specs.StandingChanges.{room_filled}
 use Rattle.op_net.proofs.MadeUp.{LeavesAhead}
 use Rattle.op_net.proofs.operating.fill_room.Given as goal
 

@@ -1,6 +1,6 @@
 use Rattle.std.proofs.Common.{ℕ, Some, ap, ◌∙◌, arith}
-use Rattle.op_net.specs.BoardView.{operation_net_on}
-use Rattle.op_net.specs.PlacesView.{line_put, standing}
+use Rattle.operation_tables.specs.BoardView.{operation_net_on}
+use Rattle.operation_places.specs.PlacesView.{line_put, standing}
 use Rattle.op_net.proofs.MadeUp.{ahead_leads, led_ahead, led_makes}
 use Rattle.op_net.proofs.operating.lead_line.Goals as goal
 

@@ -1,10 +1,10 @@
 use Rattle.std.proofs.Common.{◌+◌, suc, refl, ap, ◌∙◌, arith, add-one}
 use Rattle.net_board.specs.Tokens.{edge_of}
-use Rattle.op_net.specs.BoardView.{operation_net_on}
-use Rattle.op_net.specs.OperationRows.{IsNextNeed}
-use Rattle.op_net.specs.PlacesView.{standing}
+use Rattle.operation_tables.specs.BoardView.{operation_net_on}
+use Rattle.operation_tables.specs.OperationRows.{IsNextNeed}
+use Rattle.operation_places.specs.PlacesView.{standing}
 use Rattle.op_net.proofs.HopFacts.{before_here, before_next, hop_before, hop_exists, hop_last, hop_next, moved_away, moved_past, passed_few}
-use Rattle.op_net.proofs.OperationRanges.{few_operations}
+use Rattle.operation_tables.proofs.OperationRanges.{few_operations}
 use Rattle.op_net.proofs.TakenOperands.{own_node}
 use Rattle.op_net.proofs.operating.move_line.Goals as goal
 

@@ -1,15 +1,15 @@
 use Rattle.std.proofs.Common.{◌≡◌, ◌+◌, None, length, map, drop, ap, ◌∙◌, arith}
 use Rattle.op_board.specs.OperationNets.{first_operation, needed}
-use Rattle.op_net.specs.BoardView.{operation_net_on}
-use Rattle.op_net.specs.PlacesView.{standing}
-use Rattle.op_net.specs.declared.hops.Hop.{Hop}
+use Rattle.operation_tables.specs.BoardView.{operation_net_on}
+use Rattle.operation_places.specs.PlacesView.{standing}
+use Rattle.operation_tables.specs.declared.hops.Hop.{Hop}
 use Rattle.op_net.proofs.MadeUp.{leaves_all, leaves_end}
-use Rattle.op_net.proofs.CountsKept.{keeps_more, keeps_own}
+use Rattle.operation_places.proofs.CountsKept.{keeps_more, keeps_own}
 use Rattle.op_net.proofs.RowFacts.{row_lines}
 use Rattle.op_net.proofs.WalkedRows as walked
-use Rattle.op_net.proofs.FoldedLists.{fold_end, left_none}
+use Rattle.operation_places.proofs.FoldedLists.{fold_end, left_none}
 use Rattle.op_net.specs.PlaceSteps.{line_moved}
-use Rattle.op_net.specs.StandingChanges.{lines_moved}
+use Rattle.operation_places.specs.StandingChanges.{lines_moved}
 use Rattle.op_net.proofs.MovedLines.{needed_moved}
 use Rattle.op_net.proofs.operating.move_lines.Goals as goal
 

@@ -2,10 +2,10 @@ use Rattle.std.proofs.Common.{◌≡◌, ◌+◌, true, drop, fold, length}
 use Rattle.std.specs.List.{list_all}
 use Rattle.op_board.specs.OperationNets.{first_operation, needed}
 use Rattle.op_board.specs.OperationTokens.{stands_before}
-use Rattle.op_net.specs.BoardView.{operation_net_on}
+use Rattle.operation_tables.specs.BoardView.{operation_net_on}
 use Rattle.op_net.specs.PlaceSteps.{line_moved}
-use Rattle.op_net.specs.PlacesView.{KeepsCounts, standing}
-use Rattle.op_net.specs.StandingChanges.{lines_moved}
+use Rattle.operation_places.specs.PlacesView.{KeepsCounts, standing}
+use Rattle.operation_places.specs.StandingChanges.{lines_moved}
 use Rattle.op_net.proofs.MadeUp.{LeavesAhead}
 use Rattle.op_net.proofs.operating.move_lines.Given as goal
 

@@ -4,9 +4,9 @@ use Rattle.std.proofs.lemmas.Int.{to_z-of_z}
 use Rattle.op_board.specs.OperationTokens.{OperationTokens}
 use Rattle.operation_lists.specs.Seen.{operand_seen}
 use Rattle.operation_lists.specs.declared.operations.Operand as rust
-use Rattle.op_net.specs.BoardView.{operation_net_on}
+use Rattle.operation_tables.specs.BoardView.{operation_net_on}
 use Rattle.op_net.specs.PlaceSteps.{values_for}
-use Rattle.op_net.specs.PlacesView.{IsAheadBy, MakesUp, standing}
+use Rattle.operation_places.specs.PlacesView.{IsAheadBy, MakesUp, standing}
 use Rattle.op_net.proofs.FirstThree.{few_count, few_may, few_read, few_taken, first_given, first_own, second_may, third_may}
 use Rattle.op_net.proofs.MadeUp.{ahead_left, ahead_less, makes_more}
 use Rattle.op_net.proofs.TakenOperands.{taken_length}

@@ -5,10 +5,10 @@ use Rattle.op_board.specs.OperationTokens.{is_given, operand_in, value_at}
 use Rattle.op_board.specs.Operations.{From}
 use Rattle.operation_lists.specs.Seen.{operand_seen}
 use Rattle.operation_lists.specs.declared.operations.Operand.{Operand}
-use Rattle.op_net.specs.BoardView.{operation_net_on}
-use Rattle.op_net.specs.OperationRows.{IsTaker}
+use Rattle.operation_tables.specs.BoardView.{operation_net_on}
+use Rattle.operation_tables.specs.OperationRows.{IsTaker}
 use Rattle.op_net.specs.PlaceSteps.{IsOwnOperand, values_for}
-use Rattle.op_net.specs.PlacesView.{IsAheadBy, MakesUp, standing}
+use Rattle.operation_places.specs.PlacesView.{IsAheadBy, MakesUp, standing}
 use Rattle.op_net.proofs.MadeUp.{makes_none}
 use Rattle.op_net.proofs.TakenOperands.{giver_after, giver_exists, giver_full, own_node, read_value}
 use Rattle.op_net.proofs.operating.take_operand.Goals as goal

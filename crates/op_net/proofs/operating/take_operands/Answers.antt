@@ -6,15 +6,15 @@ use Rattle.op_board.specs.OperationNets.{first_operation, operation_at}
 use Rattle.op_board.specs.Operations.{Operand}
 use Rattle.op_board.specs.OperationTokens.{givers, operand_in}
 use Rattle.operation_lists.specs.Seen.{operand_seen}
-use Rattle.op_net.specs.BoardView.{operation_net_on}
-use Rattle.op_net.specs.PlacesView.{standing}
+use Rattle.operation_tables.specs.BoardView.{operation_net_on}
+use Rattle.operation_places.specs.PlacesView.{standing}
 use Rattle.op_net.proofs.MadeUp.{leaves_all, leaves_end}
-use Rattle.op_net.proofs.CountsKept.{keeps_more, keeps_own}
+use Rattle.operation_places.proofs.CountsKept.{keeps_more, keeps_own}
 use Rattle.op_net.proofs.RowFacts.{row_operands}
 use Rattle.op_net.proofs.WalkedRows as walked
-use Rattle.op_net.proofs.FoldedLists.{fold_end, left_none, map_end}
+use Rattle.operation_places.proofs.FoldedLists.{fold_end, left_none, map_end}
 use Rattle.op_net.specs.PlaceSteps.{operand_taken}
-use Rattle.op_net.specs.StandingChanges.{values_taken}
+use Rattle.operation_places.specs.StandingChanges.{values_taken}
 use Rattle.op_net.proofs.TakenOperands.{operands_taken}
 use Rattle.op_net.proofs.operating.take_operands.Goals as goal
 

@@ -2,11 +2,11 @@ use Rattle.std.proofs.Common.{◌≡◌, ◌≤◌, ◌+◌, ◌++◌, true, dro
 use Rattle.std.specs.List.{list_all}
 use Rattle.op_board.specs.OperationNets.{first_operation, operation_at}
 use Rattle.op_board.specs.OperationTokens.{givers, is_given, operand_in}
-use Rattle.op_net.specs.BoardView.{operation_net_on}
+use Rattle.operation_tables.specs.BoardView.{operation_net_on}
 use Rattle.op_net.specs.PlaceSteps.{operand_taken}
-use Rattle.op_net.specs.PlacesView.{KeepsCounts, standing}
-use Rattle.op_net.specs.StandingChanges.{values_taken}
-use Rattle.op_net.specs.Waits.{node_total}
+use Rattle.operation_places.specs.PlacesView.{KeepsCounts, standing}
+use Rattle.operation_places.specs.StandingChanges.{values_taken}
+use Rattle.operation_tables.specs.Waits.{node_total}
 use Rattle.op_net.proofs.MadeUp.{LeavesAhead}
 use Rattle.op_net.proofs.operating.take_operands.Given as goal
 

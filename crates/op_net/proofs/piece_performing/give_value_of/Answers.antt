@@ -5,8 +5,8 @@ use Rattle.operation_effects.specs.OperandValues.{IsAmong}
 use Rattle.operation_effects.specs.Tasks.{TakesOperands}
 use Rattle.operation_lists.specs.Seen.{operand_seen}
 use Rattle.operation_lists.specs.declared.operations.Operand.{Operand}
-use Rattle.op_net.specs.BoardView.{operation_net_on}
-use Rattle.op_net.specs.OperationRows.{IsRow}
+use Rattle.operation_tables.specs.BoardView.{operation_net_on}
+use Rattle.operation_tables.specs.OperationRows.{IsRow}
 use Rattle.op_net.proofs.PieceValues.{row_among, row_gives}
 use Rattle.op_net.proofs.TaskPropositions.{can_prop, takes_prop}
 use Rattle.op_net.proofs.piece_performing.give_value_of.Goals as goal

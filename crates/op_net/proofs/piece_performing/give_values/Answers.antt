@@ -5,7 +5,7 @@ use Rattle.std.proofs.lemmas.List.{take_more_set}
 use Rattle.std.specs.Prelude.{slice_set}
 use Rattle.f77_meaning.specs.Storage.{memory_of}
 use Rattle.op_board.specs.Effects.{gives}
-use Rattle.op_net.specs.BoardView.{operation_net_on}
+use Rattle.operation_tables.specs.BoardView.{operation_net_on}
 use Rattle.op_net.specs.PieceValues.{performed_over, ran_from}
 use Rattle.op_net.proofs.PieceValues.{next_ran}
 use Rattle.op_net.proofs.piece_performing.give_values.Goals as goal

@@ -1,7 +1,7 @@
 use Rattle.std.proofs.Common.{◌≡◌, length, take}
 use Rattle.f77_meaning.specs.Storage.{memory_of}
 use Rattle.op_board.specs.OperationOrder.{ran_at}
-use Rattle.op_net.specs.BoardView.{operation_net_on}
+use Rattle.operation_tables.specs.BoardView.{operation_net_on}
 use Rattle.op_net.specs.PieceValues.{ran_from}
 use Rattle.op_net.proofs.piece_performing.give_values.Given as goal
 

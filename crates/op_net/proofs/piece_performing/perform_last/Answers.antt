@@ -9,8 +9,8 @@ use Rattle.op_table.specs.declared.Trap.{Trap}
 use Rattle.operation_effects.specs.Done.{KeepsStorage}
 use Rattle.operation_effects.specs.declared.performing.Did.{Did}
 use Rattle.operation_effects.specs.declared.performing.Did.TheVariants as did
-use Rattle.op_net.specs.BoardView.{operation_net_on}
-use Rattle.op_net.specs.OperationRows.{IsRow}
+use Rattle.operation_tables.specs.BoardView.{operation_net_on}
+use Rattle.operation_tables.specs.OperationRows.{IsRow}
 use Rattle.op_net.proofs.PieceValues.{is_gave, no_value}
 use Rattle.op_net.proofs.piece_performing.perform_last.Goals as goal
 

@@ -1,7 +1,7 @@
 use Rattle.std.proofs.Common.{◌≡◌, ◌+◌, ◌-◌, List, ℤ, true, Ok, length, take, ◌∙◌, subst, arith, rules}
 use Rattle.f77_meaning.specs.Storage.{memory_of}
 use Rattle.op_board.specs.OperationNets.{operation_count}
-use Rattle.op_net.specs.BoardView.{operation_net_on}
+use Rattle.operation_tables.specs.BoardView.{operation_net_on}
 use Rattle.op_net.specs.PieceEnds.{effect_told}
 use Rattle.op_net.specs.PieceValues.{performed_over}
 use Rattle.op_net.proofs.PieceValues.{last_ran}

@@ -9,8 +9,8 @@ use Rattle.op_board.specs.OperationNets.{operation_at}
 use Rattle.operation_effects.specs.Tasks.{TakesOperands, task_room}
 use Rattle.operation_effects.proofs.OperandReading.{value_count}
 use Rattle.operation_lists.specs.Seen.{operand_seen}
-use Rattle.op_net.specs.BoardView.{operation_net_on}
-use Rattle.op_net.specs.OperationRows.{IsRow}
+use Rattle.operation_tables.specs.BoardView.{operation_net_on}
+use Rattle.operation_tables.specs.OperationRows.{IsRow}
 use Rattle.op_net.proofs.PieceValues.{row_among, row_values}
 use Rattle.op_net.proofs.RowFacts.{row_operands}
 use Rattle.op_net.proofs.TaskPropositions.{can_prop, result_prop, takes_prop}

@@ -1,6 +1,6 @@
 use Rattle.std.proofs.Common.{◌<◌, ◌≤◌, ◌^◌, length, subst, arith}
 use Rattle.op_board.specs.OperationNets.{all_operation_nodes}
-use Rattle.op_net.specs.GraphView.{operations_of}
+use Rattle.operation_tables.specs.GraphView.{operations_of}
 use Rattle.printed_laws.proofs.ShortOperands.{all_nodes_short, one_more_node}
 use Rattle.printed_laws.proofs.nets.nets_are_short.Goals as goal
 

@@ -1,4 +1,4 @@
-use Rattle.op_net.specs.GraphView.{operations_of}
+use Rattle.operation_tables.specs.GraphView.{operations_of}
 use Rattle.printed_laws.specs.ShortNet.{HaveShortOperandsBelow}
 use Rattle.printed_laws.proofs.nets.nets_are_short.Given as goal
 

@@ -2,8 +2,8 @@ use Rattle.std.proofs.Common.{◌<◌, ◌≤◌, ◌^◌, List, All, length, su
 use Rattle.std.proofs.lemmas.List.{take_all}
 use Rattle.op_board.specs.Operations.{Operand}
 use Rattle.op_board.specs.OperationNets.{operation_at, operation_node}
-use Rattle.op_net.specs.GraphView.{operations_of}
-use Rattle.op_net.specs.Telling.{number_of, piece_of}
+use Rattle.operation_tables.specs.GraphView.{operations_of}
+use Rattle.operation_tables.specs.Telling.{number_of, piece_of}
 use Rattle.printed_laws.specs.ShortNet.{IsShortOperand}
 use Rattle.printed_laws.proofs.ShortOperands.{one_more_operand}
 use Rattle.printed_laws.proofs.nets.operands_are_short.Goals as goal

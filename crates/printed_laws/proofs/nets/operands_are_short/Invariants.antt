@@ -1,7 +1,7 @@
 use Rattle.std.proofs.Common.{All, take}
 use Rattle.op_board.specs.OperationNets.{operation_at, operation_node}
-use Rattle.op_net.specs.GraphView.{operations_of}
-use Rattle.op_net.specs.Telling.{number_of, piece_of}
+use Rattle.operation_tables.specs.GraphView.{operations_of}
+use Rattle.operation_tables.specs.Telling.{number_of, piece_of}
 use Rattle.printed_laws.specs.ShortNet.{IsShortOperand}
 use Rattle.printed_laws.proofs.nets.operands_are_short.Given as goal
 

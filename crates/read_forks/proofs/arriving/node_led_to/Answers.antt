@@ -1,6 +1,6 @@
 use Rattle.std.proofs.Common.{Some, subst}
 use Rattle.op_board.specs.OperationNets.{OperationNet}
-use Rattle.op_net.specs.Waits.{IsNodeBefore}
+use Rattle.operation_tables.specs.Waits.{IsNodeBefore}
 use Rattle.read_forks.proofs.arriving.node_led_to.Goals as goal
 
 pub returns-else-led-wire-clause-before : goal.returns-else-led-wire-clause-before

@@ -1,7 +1,7 @@
 use Rattle.std.proofs.Common.{◌<◌, ℕ, Bool, List, refl, sym, ap, ◌∙◌, subst}
 use Rattle.firing.specs.ReadySet.{has}
 use Rattle.op_board.specs.OperationNets.{OperationNet, operation_node}
-use Rattle.op_net.specs.Waits.{node_total}
+use Rattle.operation_tables.specs.Waits.{node_total}
 use Rattle.fork_board.specs.ForkTokens.{is_load_node}
 use Rattle.op_net.specs.NetView.{marking_of as operations_on, net_of as net_in}
 use Rattle.read_forks.specs.KeptLoads.{IsOpenForNone, opened_of}

@@ -1,7 +1,7 @@
 use Rattle.std.proofs.Common.{◌≡◌, ◌∙◌, ℕ, false, sym, subst, arith}
 use Rattle.op_board.specs.OperationNets.{operation_node}
 use Rattle.op_net.specs.NetView.{net_of}
-use Rattle.op_net.specs.Waits.{node_total}
+use Rattle.operation_tables.specs.Waits.{node_total}
 use Rattle.fork_board.specs.ForkTokens.{is_load_node}
 use Rattle.read_forks.specs.NodeLinks.{IsLoadTaker}
 use Rattle.read_forks.proofs.MadeGivers.{gives_none, no_load_taker, other_taker}

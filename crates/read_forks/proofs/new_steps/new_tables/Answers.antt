@@ -1,6 +1,6 @@
 use Rattle.std.proofs.Common.{◌≡◌, ℕ, subst, arith}
 use Rattle.op_net.specs.NetView.{net_of}
-use Rattle.op_net.specs.Waits.{node_total}
+use Rattle.operation_tables.specs.Waits.{node_total}
 use Rattle.read_forks.specs.MadeSteps.{AreTablesBelow}
 use Rattle.read_forks.proofs.MadeTables.{no_tables}
 use Rattle.read_forks.proofs.new_steps.new_tables.Goals as goal

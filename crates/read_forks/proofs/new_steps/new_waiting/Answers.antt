@@ -1,6 +1,6 @@
 use Rattle.std.proofs.Common.{refl, arith}
 use Rattle.op_net.specs.NetView.{net_of}
-use Rattle.op_net.specs.Waits.{node_total}
+use Rattle.operation_tables.specs.Waits.{node_total}
 use Rattle.read_forks.proofs.MadeLinks.{all_steps_made}
 use Rattle.read_forks.proofs.NewTables.{new_kept}
 use Rattle.read_forks.proofs.OpenedLinks.{none_opened}

@@ -1,6 +1,6 @@
 use Rattle.std.proofs.Common.{◌<◌, ◌^◌, arith}
 use Rattle.op_net.specs.NetView.{net_of}
-use Rattle.op_net.specs.Waits.{node_total}
+use Rattle.operation_tables.specs.Waits.{node_total}
 use Rattle.read_forks.proofs.MadeTables.{turn_more}
 use Rattle.read_forks.proofs.new_steps.push_turn.Goals as goal
 

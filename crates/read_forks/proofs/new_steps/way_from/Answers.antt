@@ -4,7 +4,7 @@ use Rattle.op_board.specs.OperationNets.{needed}
 use Rattle.op_board.proofs.NeededLines.{needed_has}
 use Rattle.op_board.proofs.OperationNumbers.{operation_number}
 use Rattle.op_net.specs.NetView.{net_of}
-use Rattle.op_net.specs.OperationRows.{IsNextNeed, NextIs}
+use Rattle.operation_tables.specs.OperationRows.{IsNextNeed, NextIs}
 use Rattle.read_forks.specs.NodeLinks.{IsStep}
 use Rattle.read_forks.proofs.FoundWays.{next_line, way_before, way_here}
 use Rattle.read_forks.proofs.LoadWalks.{within}

@@ -2,7 +2,7 @@ use Rattle.std.proofs.Common.{◌≡◌, ◌<◌, ◌∙◌, ℕ, true, false, S
 use Rattle.closed_walks.specs.Graph.{to as to_piece}
 use Rattle.net_board.specs.Nodes.{graph_in}
 use Rattle.op_net.specs.NetView.{net_of}
-use Rattle.op_net.specs.Waits.{node_total}
+use Rattle.operation_tables.specs.Waits.{node_total}
 use Rattle.read_forks.specs.NodeLinks.{IsStep}
 use Rattle.read_forks.proofs.FoundWays.{IsThatNode, over_line, way_behind, way_over}
 use Rattle.read_forks.proofs.new_steps.way_over.Goals as goal

@@ -2,10 +2,10 @@ use Rattle.std.proofs.Common.{sym, subst, map, arith}
 use Rattle.op_board.specs.OperationNets.{operation_at}
 use Rattle.op_board.specs.OperationTokens.{operand_in}
 use Rattle.op_net.specs.NetView.{net_of}
-use Rattle.op_net.specs.Steering.{LeadsBy}
+use Rattle.operation_places.specs.Steering.{LeadsBy}
 use Rattle.op_net.proofs.ApartNets.{load_tells_first}
-use Rattle.op_net.proofs.ControlMoveLemmas.{operation_leads}
-use Rattle.op_net.proofs.NodeNames.{operation_at_node}
+use Rattle.operation_places.proofs.ControlMoveLemmas.{operation_leads}
+use Rattle.operation_tables.proofs.NodeNames.{operation_at_node}
 use Rattle.op_net.proofs.net.OpNet.edge_after.Goals as goal
 
 pub out_edge-requires : goal.out_edge-requires

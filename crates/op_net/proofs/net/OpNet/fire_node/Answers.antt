@@ -5,10 +5,10 @@ use Rattle.firing.specs.Moves.{newest}
 use Rattle.op_board.specs.OperationNets.{operation_node}
 use Rattle.op_board.specs.OperationTokens.{fired_as, line_as, ready_as}
 use Rattle.op_net.specs.NetView.{marking_of, net_of}
-use Rattle.op_net.specs.OperationTables.{RowOfNode}
-use Rattle.op_net.specs.declared.rows.Row.{Row}
+use Rattle.operation_tables.specs.OperationTables.{RowOfNode}
+use Rattle.operation_tables.specs.declared.rows.Row.{Row}
 use Rattle.op_net.proofs.LedLines.{turning, turning_line, turning_silent}
-use Rattle.op_net.proofs.NodeNames.{no_act}
+use Rattle.operation_tables.proofs.NodeNames.{no_act}
 use Rattle.op_net.proofs.NodeRows.{named_by_none, named_by_row}
 use Rattle.op_net.proofs.net.OpNet.fire_node.Goals as goal
 

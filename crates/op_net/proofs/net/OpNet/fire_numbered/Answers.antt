@@ -5,7 +5,7 @@ use Rattle.firing.specs.Moves.{newest}
 use Rattle.op_board.specs.OperationNets.{operation_count, operation_node}
 use Rattle.op_board.specs.OperationTokens.{fired_as, line_as, ready_as}
 use Rattle.op_net.specs.NetView.{marking_of, net_of}
-use Rattle.op_net.proofs.NodeNames.{operation_name_at}
+use Rattle.operation_tables.proofs.NodeNames.{operation_name_at}
 use Rattle.op_net.proofs.net.OpNet.fire_numbered.Goals as goal
 
 pub operate-requires : goal.operate-requires

@@ -9,13 +9,13 @@ use Rattle.net_board.specs.Tokens.{written}
 use Rattle.op_board.specs.Effects.{Effect}
 use Rattle.op_board.specs.OperationNets.{OperationNet}
 use Rattle.op_board.specs.WholePieces.{PiecePasses, piece_passed}
-use Rattle.op_net.specs.declared.places.Places.{Places}
+use Rattle.operation_places.specs.declared.places.Places.{Places}
 use Rattle.op_net.specs.FiringChanges.{remembered}
 use Rattle.op_net.specs.NetFirings.{FiresWhole, IsAsBefore}
 use Rattle.op_net.specs.NetView.{marking_of, net_of}
 use Rattle.op_net.specs.PieceEnds.{effect_told}
-use Rattle.op_net.specs.StandingChanges.{lines_led}
-use Rattle.op_net.specs.Visits.{IsVisit}
+use Rattle.operation_places.specs.StandingChanges.{lines_led}
+use Rattle.operation_places.specs.Visits.{IsVisit}
 use Rattle.op_net.proofs.NetFirings.{marking_passed, memory_told, passes_told}
 use Rattle.op_net.proofs.NextNets.{marking_told}
 use Rattle.op_net.proofs.net.OpNet.fire_piece.Goals as goal

@@ -8,8 +8,8 @@ use Rattle.op_board.specs.OperationNets.{OperationNet, operation_count, operatio
 use Rattle.op_board.specs.OperationTokens.{OperationTokens}
 use Rattle.op_board.proofs.LockstepOperations.{IsDueOperation, due_operation_is}
 use Rattle.op_net.specs.NetView.{marking_of, net_of}
-use Rattle.op_net.specs.Visits.{IsVisit}
-use Rattle.op_net.proofs.ControlMoveLemmas.{steered_if}
+use Rattle.operation_places.specs.Visits.{IsVisit}
+use Rattle.operation_places.proofs.ControlMoveLemmas.{steered_if}
 use Rattle.op_net.proofs.net.OpNet.fire_visited.Goals as goal
 
 pub fire_numbered-fired-requires : goal.fire_numbered-fired-requires

@@ -1,7 +1,7 @@
 use mathlib.Core.Logic.{∥∥₁_elim}
 use Rattle.std.proofs.Props.{props}
 use Rattle.op_net.specs.NetView.{net_of}
-use Rattle.op_net.specs.OperationRows.{IsRow}
+use Rattle.operation_tables.specs.OperationRows.{IsRow}
 use Rattle.op_net.proofs.net.OpNet.gives.Goals as goal
 
 pub returns : goal.returns

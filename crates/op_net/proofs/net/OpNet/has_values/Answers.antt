@@ -7,12 +7,12 @@ use Rattle.op_board.specs.OperationNets.{first_operation, operation_at}
 use Rattle.op_board.specs.OperationTokens.{is_given, value_at}
 use Rattle.operation_lists.specs.declared.operations.Operand.{Operand}
 use Rattle.op_net.specs.NetView.{marking_of, net_of}
-use Rattle.op_net.specs.RowWaits.{IsBelow, is_there}
-use Rattle.op_net.specs.Waits.{failing}
+use Rattle.operation_places.specs.RowWaits.{IsBelow, is_there}
+use Rattle.operation_tables.specs.Waits.{failing}
 use Rattle.op_net.proofs.ApartNets.{from_not, operands_there}
-use Rattle.op_net.proofs.NodeNames.{operation_at_node}
-use Rattle.op_net.proofs.OperationWaits.{row_operands_below}
-use Rattle.op_net.proofs.RowWaits.{all_below_prop, read_value}
+use Rattle.operation_tables.proofs.NodeNames.{operation_at_node}
+use Rattle.operation_places.proofs.OperationWaits.{row_operands_below}
+use Rattle.operation_places.proofs.RowWaits.{all_below_prop, read_value}
 use Rattle.op_net.proofs.net.OpNet.has_values.Goals as goal
 
 pub row-row-requires : goal.row-row-requires

@@ -2,7 +2,7 @@ use Rattle.std.proofs.Common.{ap, ◌∙◌}
 use Rattle.f77_meaning.specs.Storage.{memory_of}
 use Rattle.op_board.specs.OperationTokens.{OperationTokens}
 use Rattle.op_net.specs.NetView.{marking_of, net_of}
-use Rattle.op_net.specs.StandingChanges.{lines_led}
+use Rattle.operation_places.specs.StandingChanges.{lines_led}
 use Rattle.op_net.proofs.net.OpNet.leave_piece.Goals as goal
 
 pub returns-clause-marking : goal.returns-clause-marking

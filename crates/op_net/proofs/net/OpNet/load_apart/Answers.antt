@@ -7,13 +7,13 @@ use Rattle.op_board.specs.OperationNets.{first_operation, operation_at}
 use Rattle.op_board.specs.OperationTokens.{OperationTokens, givers, is_given, value_at}
 use Rattle.op_net.specs.FiringChanges.{worked_on}
 use Rattle.op_net.specs.NetView.{marking_of, net_of}
-use Rattle.op_net.specs.PlacesView.{standing, value_put}
-use Rattle.op_net.specs.StandingChanges.{values_taken}
+use Rattle.operation_places.specs.PlacesView.{standing, value_put}
+use Rattle.operation_places.specs.StandingChanges.{values_taken}
 use Rattle.op_net.proofs.ApartNets.{IsGivenAs, apart_marking, gives_one, load_gives_value}
-use Rattle.op_net.proofs.CountedAhead.{ahead_counted}
-use Rattle.op_net.proofs.CountsKept.{keeps_more}
+use Rattle.operation_places.proofs.CountedAhead.{ahead_counted}
+use Rattle.operation_places.proofs.CountsKept.{keeps_more}
 use Rattle.op_net.proofs.FiringParts.{given_same, taken_empty}
-use Rattle.op_net.proofs.NodeNames.{IsOperationAt, operation_at_node}
+use Rattle.operation_tables.proofs.NodeNames.{IsOperationAt, operation_at_node}
 use Rattle.op_net.proofs.OperatedNets.{ahead_apart, ahead_by, ahead_load, performed_so, whole}
 use Rattle.op_net.proofs.PlacesKept.{given_kept}
 use Rattle.op_net.proofs.RowFacts.{row_line_count}

@@ -1,7 +1,7 @@
 use Rattle.std.proofs.Common.{sym, ap, ◌∙◌, arith}
 use Rattle.op_net.specs.ApartLoads.{is_load_name}
 use Rattle.op_net.proofs.ApartNets.{not_load}
-use Rattle.op_net.proofs.PlannedOperations.{inside_operations, planned_name}
+use Rattle.operation_tables.proofs.PlannedOperations.{inside_operations, planned_name}
 use Rattle.op_net.proofs.net.OpNet.loads.Goals as goal
 
 pub index-requires-2 : goal.index-requires-2

@@ -1,7 +1,7 @@
 use Rattle.std.proofs.Common.{◌≡◌, ◌<◌, ℕ, length, Some, slice_get, true, sym, subst, arith, rules}
 use Rattle.op_board.specs.OperationNets.{is_last_at, needed}
 use Rattle.op_net.specs.NetView.{net_of}
-use Rattle.op_net.specs.OperationRows.{IsNextNeed}
+use Rattle.operation_tables.specs.OperationRows.{IsNextNeed}
 use Rattle.op_net.proofs.HopFacts.{hop_last, hop_next}
 use Rattle.op_net.proofs.RowFacts.{row_hop, row_line_at, row_line_count}
 use Rattle.op_net.proofs.net.OpNet.needed_next.Goals as goal

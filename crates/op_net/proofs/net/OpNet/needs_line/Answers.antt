@@ -1,5 +1,5 @@
 use Rattle.std.proofs.Common.{◌∙◌, arith}
-use Rattle.op_net.proofs.PlannedOperations.{inside_needs, planned_needs}
+use Rattle.operation_tables.proofs.PlannedOperations.{inside_needs, planned_needs}
 use Rattle.op_net.proofs.net.OpNet.needs_line.Goals as goal
 
 pub at-requires : goal.at-requires

@@ -1,6 +1,6 @@
 use Rattle.std.proofs.Common.{ℕ, Some, sym, subst}
 use Rattle.op_net.specs.NetView.{net_of}
-use Rattle.op_net.specs.Waits.{IsNodeBefore}
+use Rattle.operation_tables.specs.Waits.{IsNodeBefore}
 use Rattle.op_net.proofs.net.OpNet.node_at.Goals as goal
 
 pub returns-then-passed-eq0 : goal.returns-then-passed-eq0

@@ -2,9 +2,9 @@ use Rattle.std.proofs.Common.{◌≡◌, ◌<◌, ◌+◌, ℕ, Some, None, slic
 use Rattle.op_board.specs.OperationNets.{operation_count}
 use Rattle.op_net.specs.ApartLoads.{needing}
 use Rattle.op_net.specs.NetView.{net_of}
-use Rattle.op_net.specs.Waits.{IsNodeBefore}
+use Rattle.operation_tables.specs.Waits.{IsNodeBefore}
 use Rattle.op_net.proofs.ApartNets.{passing_at}
-use Rattle.op_net.proofs.NodeNames.{operation_within}
+use Rattle.operation_tables.proofs.NodeNames.{operation_within}
 use Rattle.op_net.proofs.PassedNodes.{none_numbered, numbered_before}
 use Rattle.op_net.proofs.net.OpNet.node_numbered.Goals as goal
 

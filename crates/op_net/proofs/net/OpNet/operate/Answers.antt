@@ -14,12 +14,12 @@ use Rattle.operation_effects.specs.declared.performing.Did.TheVariants as did
 use Rattle.operation_effects.specs.Done.{KeepsLine, KeepsStorage}
 use Rattle.op_net.specs.FiringChanges.{given_on}
 use Rattle.op_net.specs.NetView.{marking_of, net_of}
-use Rattle.op_net.specs.OperationRows.{IsRow}
-use Rattle.op_net.specs.PlacesView.{IsCountedAhead, standing}
-use Rattle.op_net.specs.Telling.{IsOperation}
-use Rattle.op_net.proofs.CountedAhead.{ahead_counted}
+use Rattle.operation_tables.specs.OperationRows.{IsRow}
+use Rattle.operation_places.specs.PlacesView.{IsCountedAhead, standing}
+use Rattle.operation_tables.specs.Telling.{IsOperation}
+use Rattle.operation_places.proofs.CountedAhead.{ahead_counted}
 use Rattle.op_net.proofs.FiringParts.{IsReadyOperation, given_same, ready_operation}
-use Rattle.op_net.proofs.NodeNames.{IsOperationAt, operation_at_node}
+use Rattle.operation_tables.proofs.NodeNames.{IsOperationAt, operation_at_node}
 use Rattle.op_net.proofs.NodeRows.{row_by_name}
 use Rattle.op_net.proofs.OperatedNets.{IsOperated, IsPerformed, ahead_by, ahead_whole, giving, has_given, has_passed, has_performed, has_stopped, has_told, has_written, line_told, lines_stand, place_empty, room_there, telling, whole}
 use Rattle.op_net.proofs.RowReads.{row_serial, row_waits}

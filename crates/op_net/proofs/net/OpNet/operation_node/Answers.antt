@@ -4,9 +4,9 @@ use Rattle.closed_walks.specs.Graph.{to}
 use Rattle.net_board.specs.Nodes.{graph_in}
 use Rattle.op_board.specs.OperationNets.{needing_before, operation_node}
 use Rattle.op_net.specs.NetView.{net_of}
-use Rattle.op_net.specs.Waits.{IsNodeBefore, node_total}
-use Rattle.op_net.proofs.NodeNames.{operation_name_at, operation_within}
-use Rattle.op_net.proofs.NodesBefore.{operation_before}
+use Rattle.operation_tables.specs.Waits.{IsNodeBefore, node_total}
+use Rattle.operation_tables.proofs.NodeNames.{operation_name_at, operation_within}
+use Rattle.operation_tables.proofs.NodesBefore.{operation_before}
 use Rattle.op_net.proofs.net.OpNet.operation_node.Goals as goal
 
 pub overflow_add-result : goal.overflow_add-result

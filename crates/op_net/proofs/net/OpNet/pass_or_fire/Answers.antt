@@ -3,7 +3,7 @@ use Rattle.firing.specs.declared.system.Fired.{Fired}
 use Rattle.op_board.specs.OperationCourse.{due_operation}
 use Rattle.op_board.specs.OperationNets.{OperationNet}
 use Rattle.op_board.proofs.LockstepOperations.{IsDueOperation, due_operation_is}
-use Rattle.op_net.specs.declared.control_moves.Visit.{Visit}
+use Rattle.operation_places.specs.declared.control_moves.Visit.{Visit}
 use Rattle.op_net.specs.NetFirings.{FiresWhole, IsAsBefore}
 use Rattle.op_net.specs.NetView.{net_of}
 use Rattle.op_net.proofs.NetFirings.{CanGoOn, can_fire_due, fired_from, fired_within, one_fired, still_goes}

@@ -3,10 +3,10 @@ use mathlib.Core.Logic.{∥∥₁_elim}
 use Rattle.std.proofs.Props.{props}
 use Rattle.op_board.specs.OperationNets.{first_operation}
 use Rattle.op_net.specs.NetView.{net_of}
-use Rattle.op_net.specs.OperationRows.{IsRow, IsTaker}
-use Rattle.op_net.specs.Waits.{IsNodeAfter}
-use Rattle.op_net.proofs.NodeNames.{IsOperationAt, operation_at_node, operation_within}
-use Rattle.op_net.proofs.NodesAfter.{one_after}
+use Rattle.operation_tables.specs.OperationRows.{IsRow, IsTaker}
+use Rattle.operation_tables.specs.Waits.{IsNodeAfter}
+use Rattle.operation_tables.proofs.NodeNames.{IsOperationAt, operation_at_node, operation_within}
+use Rattle.operation_tables.proofs.NodesAfter.{one_after}
 use Rattle.op_net.proofs.net.OpNet.taker.Goals as goal
 
 pub row-row-requires : goal.row-row-requires

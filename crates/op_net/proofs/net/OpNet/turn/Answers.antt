@@ -4,9 +4,9 @@ use Rattle.firing.specs.declared.system.NodeName.TheVariants.{Merge, Switch}
 use Rattle.op_board.specs.OperationNets.{operation_node}
 use Rattle.op_board.specs.OperationTokens.{fired_as, ready_as}
 use Rattle.op_net.specs.NetView.{marking_of, net_of}
-use Rattle.op_net.specs.PlacesView.{standing}
-use Rattle.op_net.specs.Steering.{LeadsBy}
-use Rattle.op_net.proofs.ControlMoveLemmas.{merge_leads, switch_leads}
+use Rattle.operation_places.specs.PlacesView.{standing}
+use Rattle.operation_places.specs.Steering.{LeadsBy}
+use Rattle.operation_places.proofs.ControlMoveLemmas.{merge_leads, switch_leads}
 use Rattle.op_net.proofs.LedLines.{merge_whole, switch_whole}
 use Rattle.op_net.proofs.net.OpNet.turn.Goals as goal
 

@@ -1,7 +1,7 @@
 use Rattle.std.proofs.Common.{◌≡◌, ◌-◌, Some}
 use Rattle.op_net.specs.NetFirings.{HasFired}
 use Rattle.op_net.specs.NetView.{net_of}
-use Rattle.op_net.specs.Visits.{IsVisit}
+use Rattle.operation_places.specs.Visits.{IsVisit}
 use Rattle.op_net.proofs.net_system.OpNetSourceOrder.fire_due.Given as goal
 
 abbrev pub invariant-more : goal.invariant-more

@@ -5,7 +5,7 @@ use Rattle.net_board.specs.Nodes.{graph_in}
 use Rattle.op_board.specs.OperationNets.{OperationNet, operation_at, operation_node}
 use Rattle.op_net.specs.ApartLoads.{flags_of, loaded_apart}
 use Rattle.op_net.specs.NetView.{marking_of as operations_on, net_of as net_in}
-use Rattle.op_net.specs.Waits.{node_total}
+use Rattle.operation_tables.specs.Waits.{node_total}
 use Rattle.fork_board.specs.ForkTokens.{fork_moves, is_load_node}
 use Rattle.read_forks.specs.ForkView.{marking_of, net_of}
 use Rattle.read_forks.specs.WaitingLoads.{IsRemarked, KeepsMarks}

@@ -7,7 +7,7 @@ use Rattle.op_board.specs.OperationTokens.{operation_moves}
 use Rattle.op_board.specs.SoundOperationNets.{IsOperationNet}
 use Rattle.op_net.specs.ApartLoads.{KeepsApart}
 use Rattle.op_net.specs.NetView.{marking_of as operations_on, net_of as net_in}
-use Rattle.op_net.specs.Waits.{node_total}
+use Rattle.operation_tables.specs.Waits.{node_total}
 use Rattle.fork_board.specs.ForkTokens.{fork_moves, is_load_node}
 use Rattle.read_forks.specs.ForkView.{marking_of, net_of}
 use Rattle.read_forks.specs.WaitingLoads.{IsRemarked}

@@ -2,7 +2,7 @@ use Rattle.std.proofs.Common.{◌≡◌, ◌<◌, inr, ⊎_elim, Some, slice_get
 use Rattle.op_board.specs.OperationNets.{OperationNet}
 use Rattle.op_net.specs.ApartLoads.{flags_of}
 use Rattle.op_net.specs.NetView.{marking_of as operations_on, net_of as net_in}
-use Rattle.op_net.specs.Waits.{node_total}
+use Rattle.operation_tables.specs.Waits.{node_total}
 use Rattle.fork_board.specs.ForkTokens.{ForkTokens, fork_moves}
 use Rattle.read_forks.specs.ForkView.{marking_of, net_of}
 use Rattle.read_forks.specs.KeptLoads.{AreKept}

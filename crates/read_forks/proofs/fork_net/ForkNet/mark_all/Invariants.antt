@@ -3,7 +3,7 @@ use Rattle.firing.specs.ReadySet.{has}
 use Rattle.op_board.specs.OperationNets.{operation_node}
 use Rattle.op_net.specs.ApartLoads.{apart_of, flags_of}
 use Rattle.op_net.specs.NetView.{marking_of as operations_on}
-use Rattle.op_net.specs.Waits.{node_total}
+use Rattle.operation_tables.specs.Waits.{node_total}
 use Rattle.fork_board.specs.ForkTokens.{fork_moves, is_load_node}
 use Rattle.read_forks.specs.ForkView.{marking_of, net_of}
 use Rattle.read_forks.proofs.fork_net.ForkNet.mark_all.Given as goal

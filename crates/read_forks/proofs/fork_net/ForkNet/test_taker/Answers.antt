@@ -2,7 +2,7 @@ use Rattle.std.proofs.Common.{◌≡◌, ◌<◌, ℕ, length, Some, slice_get, 
 use Rattle.firing.specs.ReadySet.{has}
 use Rattle.op_board.specs.OperationNets.{operation_node}
 use Rattle.op_net.specs.ApartLoads.{flags_of}
-use Rattle.op_net.specs.Waits.{node_total}
+use Rattle.operation_tables.specs.Waits.{node_total}
 use Rattle.op_net.specs.NetView.{marking_of as operations_on, net_of as net_in}
 use Rattle.read_forks.specs.ForkView.{net_of}
 use Rattle.read_forks.specs.WaitingLoads.{waits_for_nothing}

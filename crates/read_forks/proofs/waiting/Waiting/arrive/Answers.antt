@@ -3,7 +3,7 @@ use Rattle.op_board.specs.OperationNets.{first_operation, operation_node}
 use Rattle.op_board.specs.OperationTokens.{passed_by}
 use Rattle.op_board.proofs.OperationNumbers.{operation_number}
 use Rattle.op_net.specs.NetView.{marking_of as operations_on, net_of as net_in}
-use Rattle.op_net.specs.Waits.{node_total}
+use Rattle.operation_tables.specs.Waits.{node_total}
 use Rattle.fork_board.specs.ForkTokens.{is_load_node}
 use Rattle.fork_board.specs.LoadGroups.{load_at, spot}
 use Rattle.read_forks.specs.KeptLoads.{opened_of}

@@ -6,7 +6,7 @@ use Rattle.op_board.specs.OperationNets.{OperationNet}
 use Rattle.op_board.specs.OperationTokens.{OperationTokens, passed_by}
 use Rattle.op_board.specs.SoundOperationNets.{IsOperationNet}
 use Rattle.op_net.specs.NetView.{marking_of as operations_on, net_of as net_in}
-use Rattle.op_net.specs.Waits.{IsNodeBefore}
+use Rattle.operation_tables.specs.Waits.{IsNodeBefore}
 use Rattle.read_forks.specs.KeptLoads.{IsOpenForNone, opened_of}
 use Rattle.read_forks.proofs.ArrivedLines.{IsArrived, led_arrived}
 use Rattle.read_forks.proofs.KeptNets.{apart_too, kept_there}

@@ -1,6 +1,6 @@
 use Rattle.std.proofs.Common.{◌≡◌, ◌<◌, ◌+◌, ◌-◌, ◌^◌, ℕ, suc, Some, None, slice_get, refl, sym, ap, ◌∙◌, subst, add-one, arith, rules}
 use Rattle.op_net.specs.NetView.{net_of as net_in}
-use Rattle.op_net.specs.Waits.{IsNodeBefore, node_total}
+use Rattle.operation_tables.specs.Waits.{IsNodeBefore, node_total}
 use Rattle.fork_board.specs.LoadGroups.{most_loads, site, spot}
 use Rattle.read_forks.specs.KeptLoads.{opened_of}
 use Rattle.read_forks.specs.OpenedGroups.{node_at, node_in}

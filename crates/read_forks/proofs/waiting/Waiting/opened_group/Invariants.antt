@@ -1,6 +1,6 @@
 use Rattle.std.proofs.Common.{◌≡◌, ◌+◌, Some}
 use Rattle.op_net.specs.NetView.{net_of as net_in}
-use Rattle.op_net.specs.Waits.{IsNodeBefore, node_total}
+use Rattle.operation_tables.specs.Waits.{IsNodeBefore, node_total}
 use Rattle.fork_board.specs.LoadGroups.{spot}
 use Rattle.read_forks.specs.OpenedGroups.{StandsAt}
 use Rattle.read_forks.proofs.OpenedSteps.{HasOpened}

@@ -1,6 +1,0 @@
-use Rattle.class_set.specs.ClassSet.{holds}
-use Rattle.op_net.proofs.PlanLemmas.{AreFirstNeeds}
-use Rattle.op_net.proofs.plan.all_needs.Given as goal
-
-abbrev pub invariant-loop-operation : goal.invariant-loop-operation
-invariant-loop-operation g l = AreFirstNeeds l.c (holds l.touched) l.operations.items l.operation-index l.needs

@@ -1,6 +1,0 @@
-use Rattle.std.proofs.Common.{◌≡◌, ◌<◌, ◌≤◌, ◌+◌, ℕ, Some, length, slice_get}
-use Rattle.operation_lists.specs.declared.operations.Operation.{Operation}
-use Rattle.op_net.proofs.tables.most_of.Given as goal
-
-abbrev pub invariant-loop-i : goal.invariant-loop-i
-invariant-loop-i l = (i : ℕ) (operation : Operation) → i < l.i → slice_get l.operations.items i ≡ Some operation → i + length operation.operands.items ≤ l.most

@@ -1,5 +1,0 @@
-use Rattle.op_net.proofs.TableLemmas.{AreMost}
-use Rattle.op_net.proofs.tables.most_values.Given as goal
-
-abbrev pub invariant-loop-operations : goal.invariant-loop-operations
-invariant-loop-operations g l = AreMost l.plan.pieces.items l.operations-index l.most

@@ -1,9 +1,0 @@
--- What contracts see of a net of operations with its tables.
-use Rattle.std.specs.Prelude.{ℕ}
-use Rattle.op_board.specs.OperationNets.{OperationNet}
-use Rattle.op_net.specs.declared.lookups.OperationBoard.{OperationBoard}
-use Rattle.op_net.specs.PlanView.{operations_in}
-
-module _ {W : ℕ} where
-  abbrev pub operation_net_on : OperationBoard W → OperationNet
-  operation_net_on board = operations_in board.plan

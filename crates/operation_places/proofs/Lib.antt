@@ -1,0 +1,17 @@
+pub mod FailingLists
+pub mod CountedNumbers
+pub mod OperandBounds
+pub mod WaitChanges
+pub mod ControlMoveLemmas
+pub mod TurnNodes
+pub mod RisingLines
+pub mod CountsKept
+pub mod CountedAhead
+pub mod WaitBounds
+pub mod FoldedLists
+pub mod CountedPlaces
+pub mod ValueNodes
+pub mod RowWaits
+pub mod CountedBelow
+pub mod OperationWaits
+pub mod PieceLines

@@ -1,0 +1,10 @@
+pub mod Leads
+pub mod Turns
+pub mod Counts
+pub mod SoundPlaces
+pub mod RowWaits
+pub mod FirstPlaces
+pub mod PlacesView
+pub mod StandingChanges
+pub mod Steering
+pub mod Visits

@@ -1,0 +1,31 @@
+pub mod HopFronts
+pub mod HopLinks
+pub mod HopWalks
+pub mod TakerLemmas
+pub mod RowLawLemmas
+pub mod GrownLists
+mod FirstRows
+mod NodeRecords
+pub mod NameLemmas
+pub mod PlanLemmas
+pub mod PlannedCounts
+pub mod TableLemmas
+pub mod PlanFactLemmas
+pub mod NodeNames
+pub mod NodesBefore
+pub mod NodesAfter
+pub mod SwitchNodes
+pub mod OperationRanges
+pub mod LookedUp
+pub mod RowCounts
+pub mod RowPlans
+pub mod RowLinks
+pub mod RowFronts
+pub mod FitProps
+pub mod RowRooms
+pub mod RowEntries
+pub mod RowTakers
+pub mod RowMade
+pub mod RowOperands
+pub mod PlannedOperations
+pub mod GivenOperands

@@ -1,0 +1,17 @@
+use Rattle.std.proofs.Common.{suc, ◌∙◌, arith}
+use Rattle.net_board.specs.Nodes.{graph_in}
+use Rattle.net_tables.proofs.TableLemmas.{mapped_length, mapped_at}
+use Rattle.op_board.specs.OperationNets.{first_operation}
+use Rattle.operation_tables.specs.BoardView.{operation_net_on}
+use Rattle.operation_tables.proofs.lookups.OperationBoard.first.Goals as goal
+
+pub index-requires : goal.index-requires
+index-requires g c =
+    let x = operation_net_on c.args.self.now in
+    let count = mapped_length (first_operation x) c.args.self.now.tables.firsts.items (suc (graph_in x.net).nodes) c.args.self.now.own_tables.firsts in
+    omega (arith, count, c.requires)
+
+pub returns : goal.returns
+returns g c =
+    let x = operation_net_on c.args.self.now in
+    c.index.ensures ∙ mapped_at (first_operation x) c.args.self.now.tables.firsts.items (suc (graph_in x.net).nodes) c.args.piece c.index.result.now c.args.self.now.own_tables.firsts (omega (arith, c.requires))

@@ -1,0 +1,15 @@
+pub mod OperationParts
+pub mod PieceView
+pub mod PlanView
+pub mod PlannedPieces
+pub mod ScratchLines
+pub mod OperationRows
+pub mod PieceTables
+pub mod PlanFacts
+pub mod NodeTables
+pub mod GraphView
+pub mod RowRoom
+pub mod OperationTables
+pub mod BoardView
+pub mod Waits
+pub mod Telling
