@@ -23,13 +23,4 @@ pub mod Readiness
 pub mod Leaving
 pub mod Settled
 pub mod Opening
-pub mod Ways
-pub mod Coming
-pub mod Passing
-pub mod Choosing
-pub mod Writing
-pub mod Rightness
-pub mod Runs
-pub mod Living
-pub mod OneTable
 pub mod Keeping

@@ -11,5 +11,3 @@ pub mod Kept
 pub mod Right
 pub mod Setting
 pub mod Work
-pub mod Facts
-pub mod Laws

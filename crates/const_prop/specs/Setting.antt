@@ -1,4 +1,4 @@
--- What is known of a program with its flow graph, its classes and its wires. No public clause cites this module.
+-- What is known of a program with its flow graph, its classes and its wires. Of public clauses that of `program_facts` alone cites it.
 use Rattle.std.specs.Prelude.{◌≡◌, ◌<◌, ◌≤◌, ◌+◌, ◌*◌, ◌↔◌, ℕ, Bool, true, false, List, [], length, slice_index_or}
 use Rattle.class_set.specs.declared.ClassSet.{ClassSet}
 use Rattle.class_set.specs.Members.{IsWidth}

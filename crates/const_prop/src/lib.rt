@@ -9,7 +9,6 @@ mod facts;
 mod known;
 mod known_rows;
 mod known_values;
-mod laws;
 mod live;
 mod making;
 mod pieces;
@@ -23,11 +22,8 @@ mod values;
 mod visit;
 mod work;
 
+pub use facts::program_facts;
 pub use known::Known;
-pub use laws::{
-    constants_are_right, decided_pieces_go_on, known_expressions_have_their_values,
-    live_decisions_are_known, live_edges_have_values, one_table_of_constants, own_touches_route,
-};
 pub use live::live_edges;
 pub use making::constants;
 pub use table::Table;

@@ -14,7 +14,7 @@ use Rattle.net_board.specs.NetParts.{AreParts, net_with}
 use Rattle.net_board.specs.Nodes.{NetOf, graph_in}
 use Rattle.op_board.specs.OperationNets.{OperationNet, operation_count}
 use Rattle.op_board.specs.SoundOperationNets.{IsOperationNet}
-use Rattle.op_net.specs.OperationParts.{AreOperationParts}
+use Rattle.operation_tables.specs.OperationParts.{AreOperationParts}
 use Rattle.dfc_jobs.specs.Game.{AreToldByRanges, IsNetOn}
 
 abbrev pub found_parts : (p : Program) (found : Analysis) (f : FlowGraph) → f ≡ flow p.execs → IsWellFormed p → IsRangeAnalysisOf p found → AreParts p f (touches_in found.touch) found.lines

@@ -15,7 +15,7 @@ use df_io::{NoMemory, Sink, TextBuffer, WriteFault};
 use f77_tree::Program;
 use flow_analysis::{Analysis, analyze_by_ranges};
 use graph_texts::{name_sets, tables_of_edges, write_graph};
-use op_net::OpGraph;
+use operation_tables::OpGraph;
 use std::alloc::Global;
 
 /// What is found of a program, and the buffer through which it is told.

@@ -3,7 +3,7 @@
 ghost use Rattle.dep_routing.specs.Touch.{touches_in};
 ghost use Rattle.f77_tree.specs.WellFormed.{IsWellFormed};
 ghost use Rattle.flow_analysis.specs.Analysis.{IsRangeAnalysisOf};
-ghost use Rattle.op_net.specs.OperationParts.{AreOperationParts};
+ghost use Rattle.operation_tables.specs.OperationParts.{AreOperationParts};
 
 use f77_tree::Program;
 use flow_analysis::Analysis;

@@ -16,7 +16,6 @@ use Rattle.redundancy.specs.Available.{has_bit, has_mark, IsComputedOn, IsOnAllW
 use Rattle.redundancy.specs.Computed.{Computes, Kills, AreCandidates}
 use Rattle.redundancy.specs.Fitting.{WritesAt}
 use Rattle.redundancy.specs.Killing.{Meet}
-use Rattle.redundancy.specs.Kept.{HasRows}
 use Rattle.redundancy.specs.Noted.{AreRows}
 use Rattle.redundancy.specs.Solving.{bit, HasBit}
 use Rattle.closed_walks.proofs.Held.{Holds-right}
@@ -122,15 +121,12 @@ all_solved p f c a rows done pieces end covers candidates computes s = record {
       (λ yes'. t.0 (not_false (has_mark a.missing k node) yes'), λ av. false_not (has_mark a.missing k node) (t.1 av));
 }
 
-pub kept_rows : (a : Availability) (rows : List (List ℕ)) (done : ℕ) (p : Program) (f : FlowGraph) (c : ClassTable) → length a.candidates < 4294967296 → AreRows a.pieces (length a.candidates) rows → done ≡ length rows → AreSolved p f c a.candidates a.pieces done rows a.missing → HasRows a
-kept_rows a rows done p f c few are end s =
+pub kept_rows : (a : Availability) (rows : List (List ℕ)) (done : ℕ) (p : Program) (f : FlowGraph) (c : ClassTable) → AreRows a.pieces (length a.candidates) rows → done ≡ length rows → AreSolved p f c a.candidates a.pieces done rows a.missing → AreRows a.pieces (length a.candidates) a.missing
+kept_rows a rows done p f c are end s =
     let count = s.count in
     let covers = are.covers in
     let needed = are.needed in
-    record {
-      few = few;
-      rows = record { each = λ r less. s.each r (omega (arith, less, count)); covers = omega (arith, covers, count, end); needed = omega (arith, needed, count, end) };
-    }
+    record { each = λ r less. s.each r (omega (arith, less, count)); covers = omega (arith, covers, count, end); needed = omega (arith, needed, count, end) }
 
 -- ---- what a piece kills
 

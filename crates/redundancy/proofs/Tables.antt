@@ -75,8 +75,8 @@ not_found exprs numbers e i end none k c is =
 
 -- ---- the table
 
-pub table-more : (exprs : List Expr) (buckets : List (List ℕ)) (e : Expr) → length exprs < 4294967295 → IsTable exprs buckets → IsTable (exprs ++ e ∷ []) (set buckets (digest e % length buckets) (get_or buckets (digest e % length buckets) [] ++ length exprs ∷ []))
-table-more exprs buckets e few t =
+pub table-more : (exprs : List Expr) (buckets : List (List ℕ)) (e : Expr) → IsTable exprs buckets → IsTable (exprs ++ e ∷ []) (set buckets (digest e % length buckets) (get_or buckets (digest e % length buckets) [] ++ length exprs ∷ []))
+table-more exprs buckets e t =
     let b = digest e % length buckets in
     let some = t.some in
     let within : b < length buckets = omega (arith, some) in
@@ -86,7 +86,6 @@ table-more exprs buckets e few t =
     let wider : (numbers : List ℕ) → All (λ k. k < length exprs) numbers → All (λ k. k < length (exprs ++ e ∷ [])) numbers = λ numbers all k d lt. (let less = all k d lt in omega (arith, less, longer)) in
     record {
       some = subst (λ n. 0 < n) (sym (length-set buckets b new)) t.some;
-      few = omega (arith, few, longer);
       inside = λ a. ⊎_elim
           (λ (same : a ≡ b). subst (λ (z : List ℕ). All (λ k. k < length (exprs ++ e ∷ [])) z) (sym (ap (λ x. get_or (set buckets b new) x []) same ∙ get_or-set_same buckets b new [] within))
           (all-append (λ k. k < length (exprs ++ e ∷ [])) old (length exprs ∷ []) (wider old (t.inside b)) (all-one (λ k. k < length (exprs ++ e ∷ [])) (length exprs) (omega (arith, longer)))))
@@ -131,11 +130,11 @@ bucket_read buckets at key bucket is some read =
     read ∙ ap (λ x. get_or buckets x bucket) is ∙ sym (get_or_default buckets (key % length buckets) [] bucket within)
 
 -- a bucket and the table got one more
-pub table_pushed : (exprs new_exprs : List Expr) (buckets : List (List ℕ)) (e : Expr) (at k : ℕ) (bucket pushed : List ℕ) → length exprs < 4294967295 → IsTable exprs buckets → at ≡ digest e % length buckets → bucket ≡ get_or buckets at bucket → pushed ≡ bucket ++ k ∷ [] → k ≡ length exprs → new_exprs ≡ exprs ++ e ∷ [] → IsTable new_exprs (set buckets at pushed)
-table_pushed exprs new_exprs buckets e at k bucket pushed few t is read more place grown =
+pub table_pushed : (exprs new_exprs : List Expr) (buckets : List (List ℕ)) (e : Expr) (at k : ℕ) (bucket pushed : List ℕ) → IsTable exprs buckets → at ≡ digest e % length buckets → bucket ≡ get_or buckets at bucket → pushed ≡ bucket ++ k ∷ [] → k ≡ length exprs → new_exprs ≡ exprs ++ e ∷ [] → IsTable new_exprs (set buckets at pushed)
+table_pushed exprs new_exprs buckets e at k bucket pushed t is read more place grown =
     let old = bucket_read buckets at (digest e) bucket is t.some read in
     let new : pushed ≡ get_or buckets (digest e % length buckets) [] ++ length exprs ∷ [] = more ∙ ap (λ z. z ++ k ∷ []) old ∙ ap (λ x. get_or buckets (digest e % length buckets) [] ++ x ∷ []) place in
-    rw (grown, is, new) (table-more exprs buckets e few t)
+    rw (grown, is, new) (table-more exprs buckets e t)
 
 pub blank-push : (lists : List (List ℕ)) (x : List ℕ) → x ≡ [] → ((b : ℕ) → get_or lists b [] ≡ []) → (b : ℕ) → get_or (lists ++ x ∷ []) b [] ≡ []
 blank-push [] x is blank zero = is

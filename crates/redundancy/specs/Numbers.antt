@@ -11,7 +11,6 @@ pub record IsNumbered (e : Expr) (old new : List Expr) (k : ℕ) : Type 0 where
 -- each number in a bucket is that of an expression, and the bucket of an expression has its number
 pub record IsTable (exprs : List Expr) (buckets : List (List ℕ)) : Type 0 where
   pub some : 0 < length buckets
-  pub few : length exprs < 2 ^ 32
   pub inside : (b : ℕ) → All (λ k. k < length exprs) (slice_index_or buckets b [])
   pub all : (k : ℕ) (e : Expr) → slice_get exprs k ≡ Some e → Contains (slice_index_or buckets (digest e % length buckets) []) k
 

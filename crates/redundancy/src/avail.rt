@@ -56,36 +56,36 @@ impl Avail {
     ghost use Rattle.redundancy.specs.Available.{available_at};
 
     /// How many candidates there are.
-    pub fn count(&self) -> u32
+    pub fn count(&self) -> usize
         ensures { result ≡ length self.now.candidates }
     {
-        self.table.exprs.len() as u32
+        self.table.exprs.len()
     }
 
     /// The candidate with this number. They are numbered from 0 in the order in which they are first computed, piece by piece and
     /// from left to right.
-    pub fn candidate(&self, k: u32) -> &Expr
+    pub fn candidate(&self, k: usize) -> &Expr
         requires { k < length self.now.candidates }
         ensures { slice_get self.now.candidates k ≡ Some result.now }
     {
-        &self.table.exprs[k as usize]
+        &self.table.exprs[k]
     }
 
     /// The number of the candidate that is this expression, if one is. It takes a step for each part of the expression, and a
-    /// comparison for each candidate in its bucket: there are as many buckets as pieces.
-    pub fn number(&self, e: &Expr) -> Option<u32>
+    /// comparison for each candidate in its bucket: there is a bucket for each operator of the program, up to 262,144.
+    pub fn number(&self, e: &Expr) -> Option<usize>
         ensures { (k : ℕ) → (result ≡ Some k) ↔ (slice_get self.now.candidates k ≡ Some e.now) }
     {
         self.table.find(e)
     }
 
     /// Whether the candidate with this number is available where the piece begins.
-    pub fn at(&self, k: u32, piece: u32) -> bool
+    pub fn at(&self, k: usize, piece: u32) -> bool
         requires candidate { k < length self.now.candidates }
         requires piece { piece < self.now.pieces }
         ensures { result ≡ available_at self.now k piece }
     {
-        !self.missing[(k / 64) as usize].has_bit(piece as usize, k % 64)
+        !self.missing[k / 64].has_bit(piece as usize, (k % 64) as u32)
     }
 }
 

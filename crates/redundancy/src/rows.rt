@@ -20,7 +20,7 @@ pub(crate) fn mark(
     alloc: Global,
     rows: &mut Vec<Listed<u64>>,
     nodes: u32,
-    k: u32,
+    k: usize,
     node: u32,
 ) -> Result<(), NoMemory>
     requires node { node < nodes }
@@ -31,11 +31,11 @@ pub(crate) fn mark(
     ensures old { OnOk result (k < 64 * length rows.old.items → length rows.new.items ≡ length rows.old.items) }
     ensures new { OnOk result (k ≡ 64 * length rows.old.items → length rows.new.items ≡ length rows.old.items + 1) }
 {
-    let row = (k / 64) as usize;
+    let row = k / 64;
     if row == rows.len() {
         rows.push(Listed::of(vec![in alloc; 0; nodes as usize]?))?;
     }
-    rows[row].set_bit(node as usize, k % 64);
+    rows[row].set_bit(node as usize, (k % 64) as u32);
     Ok(())
 }
 

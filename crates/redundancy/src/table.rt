@@ -14,7 +14,7 @@ use std::alloc::Global;
 #[derive(Drop)]
 pub(crate) struct Table {
     pub(crate) exprs: Vec<Expr>,
-    pub(crate) buckets: Vec<Listed<u32>>,
+    pub(crate) buckets: Vec<Listed<usize>>,
 }
 
 impl Table {
@@ -31,7 +31,7 @@ impl Table {
     }
 
     /// The number of the expression, if it has one.
-    pub(crate) fn find(&self, e: &Expr) -> Option<u32>
+    pub(crate) fn find(&self, e: &Expr) -> Option<usize>
         requires { IsTable self.now.exprs.items self.now.buckets.items }
         ensures { MatchOption result (Contains self.now.exprs.items e.now → ⊥) (λ k. slice_get self.now.exprs.items k ≡ Some e.now) }
     {
@@ -46,9 +46,8 @@ impl Table {
         (digest(e) % self.buckets.len() as u64) as usize
     }
 
-    /// The number of the expression. A copy of it gets the next one where it is new. Numbers have 32 bits: there is no memory for more
-    /// expressions.
-    pub(crate) fn number(&mut self, alloc: Global, e: &Expr) -> Result<u32, NoMemory>
+    /// The number of the expression. A copy of it gets the next one where it is new.
+    pub(crate) fn number(&mut self, alloc: Global, e: &Expr) -> Result<usize, NoMemory>
         requires { IsTable self.old.exprs.items self.old.buckets.items }
         ensures table { OnOk result (IsTable self.new.exprs.items self.new.buckets.items) }
         ensures number { IfOk result (λ k. IsNumbered e.now self.old.exprs.items self.new.exprs.items k) }
@@ -56,10 +55,7 @@ impl Table {
         if let Some(k) = self.find(e) {
             return Ok(k);
         }
-        if self.exprs.len() >= u32::MAX as usize {
-            return Err(NoMemory);
-        }
-        let k = self.exprs.len() as u32;
+        let k = self.exprs.len();
         let at = self.bucket(e);
         self.buckets[at].push(k)?;
         self.exprs.push(e.copy(alloc)?)?;
@@ -68,7 +64,7 @@ impl Table {
 }
 
 // So many empty buckets.
-fn no_numbers(alloc: Global, buckets: u32) -> Result<Vec<Listed<u32>>, NoMemory>
+fn no_numbers(alloc: Global, buckets: u32) -> Result<Vec<Listed<usize>>, NoMemory>
     ensures count { IfOk result (λ lists. length lists.items ≡ buckets) }
     ensures empty { IfOk result (λ lists. (b : ℕ) → slice_index_or lists.items b [] ≡ []) }
 {
@@ -80,12 +76,12 @@ fn no_numbers(alloc: Global, buckets: u32) -> Result<Vec<Listed<u32>>, NoMemory>
 }
 
 // Which of these numbers the expression has.
-fn find_among(exprs: &Vec<Expr>, numbers: &[u32], e: &Expr) -> Option<u32>
+fn find_among(exprs: &Vec<Expr>, numbers: &[usize], e: &Expr) -> Option<usize>
     requires { All (λ k. k < length exprs.now.items) numbers.now }
     ensures { MatchOption result ((k : ℕ) → Contains numbers.now k → slice_get exprs.now.items k ≡ Some e.now → ⊥) (λ k. slice_get exprs.now.items k ≡ Some e.now) }
 {
     for k in numbers {
-        if are_same(&exprs[*k as usize], e) {
+        if are_same(&exprs[*k], e) {
             return Some(*k);
         }
     }

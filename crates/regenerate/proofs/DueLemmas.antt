@@ -5,7 +5,7 @@ use Rattle.cfg_build.specs.Flow.{flow, piece_at}
 use Rattle.cfg_build.specs.Joined.{FlowGraph}
 use Rattle.redundancy.specs.Available.{Availability, available_at}
 use Rattle.redundancy.specs.Computed.{computed_by}
-use Rattle.regenerate.specs.Items.{own_piece}
+use Rattle.simplified_forms.specs.Items.{own_piece}
 use Rattle.regenerate.specs.Numbered.{added, number_of, numbers_in}
 use Rattle.regenerate.specs.Shared.{computed, due, is_available, is_shared}
 use Rattle.regenerate.proofs.SharingLemmas.{none-computed, numbers-computed}

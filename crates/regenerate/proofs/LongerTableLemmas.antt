@@ -12,11 +12,11 @@ use Rattle.f77_tree.specs.declared.programs.Program.{Program}
 use Rattle.f77_tree.specs.Line.{kind_of_expression}
 use Rattle.redundancy.specs.Available.{Availability}
 use Rattle.regenerate.specs.Numbered.{number_of}
-use Rattle.regenerate.specs.Plans.{answer}
+use Rattle.simplified_forms.specs.Plans.{answer}
 use Rattle.regenerate.specs.Shared.{candidate, is_shared, shared, temporary_at, temporary_info}
-use Rattle.regenerate.specs.Tables.{AreAnswers}
+use Rattle.simplified_forms.specs.Tables.{AreAnswers}
 use Rattle.regenerate.specs.Temporaries.{free_names}
-use Rattle.regenerate.proofs.RangeCounts.{count-range-same}
+use Rattle.simplified_forms.proofs.RangeCounts.{count-range-same}
 
 pub infos-more : (f : ℕ → List NameInfo) (k : ℕ) → flat_map f (range_with_len 0 (k + 1)) ≡ flat_map f (range_with_len 0 k) ++ f k
 infos-more f k = ap (flat_map f) (range_more k) ∙ flat_map-append f (range_with_len 0 k) (k ∷ []) ∙ ap (λ (xs : List NameInfo). flat_map f (range_with_len 0 k) ++ xs) (append-nil (f k))

@@ -7,10 +7,10 @@ use Rattle.list_laws.proofs.Counts.{bit}
 use Rattle.f77_tree.specs.declared.programs.Program.{Program}
 use Rattle.redundancy.specs.Available.{Availability}
 use Rattle.regenerate.specs.Numbered.{number_of, temporary_of}
-use Rattle.regenerate.specs.Plans.{answer, AreTold}
+use Rattle.simplified_forms.specs.Plans.{answer, AreTold}
 use Rattle.regenerate.specs.Shared.{is_shared}
-use Rattle.regenerate.specs.Tables.{AreAnswers}
-use Rattle.regenerate.proofs.RangeCounts.{count-range-more, count-range-same}
+use Rattle.simplified_forms.specs.Tables.{AreAnswers}
+use Rattle.simplified_forms.proofs.RangeCounts.{count-range-more, count-range-same}
 
 count_up : (p : ℕ → Bool) (k j : ℕ) → count_by p (range_with_len 0 k) ≤ count_by p (range_with_len 0 (k + j))
 count_up p k zero = let e : k ≡ k + 0 = omega arith in subst (λ n. count_by p (range_with_len 0 k) ≤ count_by p (range_with_len 0 n)) e (omega arith)

@@ -23,7 +23,7 @@ use Rattle.flat_programs.specs.declared.statements.FlatLine.{FlatLine}
 use Rattle.flat_programs.specs.Executables.{first_of}
 use Rattle.redundancy.specs.Available.{Availability}
 use Rattle.redundancy.specs.Computed.{computed_by}
-use Rattle.regenerate.specs.Items.{own_piece}
+use Rattle.simplified_forms.specs.Items.{own_piece}
 use Rattle.regenerate.specs.Numbered.{name_alone, number_of}
 use Rattle.regenerate.specs.Shared.{computed, due, is_available, is_shared, kept_value, once, replaced, replaced_access, replaced_in, replaced_item, shared, shared_flat, shared_lines, temporary, temporary_or}
 use Rattle.regenerate.proofs.NumberLemmas.{number_in-within, numbers_in-below}

@@ -37,12 +37,12 @@ use Rattle.redundancy.specs.Candidates.{subexpressions}
 use Rattle.redundancy.specs.Computed.{computed_by, evaluated, expressions, kind_of_piece, selectors, Computes}
 use Rattle.redundancy.specs.Runs.{comes_to, KeepsValue}
 use Rattle.redundancy.proofs.PassValues.{running_below}
-use Rattle.regenerate.specs.Items.{is_piece_of, own_piece}
+use Rattle.simplified_forms.specs.Items.{is_piece_of, own_piece}
 use Rattle.regenerate.specs.Numbered.{added, number_of}
 use Rattle.regenerate.specs.Shared.{computed, due, is_available, is_shared}
-use Rattle.regenerate.proofs.ControlWays.{reached-first, reached-next, ReachingIsTold}
+use Rattle.simplified_laws.proofs.ControlWays.{reached-first, reached-next, ReachingIsTold}
 use Rattle.regenerate.proofs.ListPlaces.{first-found}
-use Rattle.regenerate.proofs.OnePiece.{own-node}
+use Rattle.simplified_laws.proofs.OnePiece.{own-node}
 
 -- ---- what a piece evaluates
 

@@ -12,7 +12,7 @@ use Rattle.regenerate.specs.declared.ends.RewriteEnd.{RewriteEnd}
 use Rattle.regenerate.specs.declared.ends.RewriteEnd.TheVariants.{TooManyNames, TooManyStatements, LongText}
 use Rattle.regenerate.specs.Numbered.{number_of}
 use Rattle.regenerate.specs.Shared.{has_many_names, most_words, refusal, shared, shared_flat, temporaries, with_temporaries}
-use Rattle.regenerate.specs.Simplified.{has_many_statements, most_statements}
+use Rattle.simplified_forms.specs.Simplified.{has_many_statements, most_statements}
 use Rattle.regenerate.specs.Temporaries.{free_names}
 
 -- the first of three limits that is passed

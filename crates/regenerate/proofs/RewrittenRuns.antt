@@ -9,11 +9,11 @@ use Rattle.alias_classes.specs.Classes.{ClassTable}
 use Rattle.const_prop.specs.Table.{Knowns}
 use Rattle.flat_programs.specs.Executables.{program_of}
 use Rattle.redundancy.specs.Available.{Availability}
-use Rattle.regenerate.specs.InStep.{operations_of_run, KeepsStep, RunsTakeFewOperations, SimplifiedProgramsKeepStep}
+use Rattle.simplified_laws.specs.InStep.{operations_of_run, KeepsStep, RunsTakeFewOperations, SimplifiedProgramsKeepStep}
 use Rattle.regenerate.specs.RewrittenSteps.{FollowsWithin, RewrittenProgramsFollow}
 use Rattle.regenerate.specs.SharedRuns.{shared_steps, AgreeUpTo, IsSharedBy}
-use Rattle.regenerate.specs.Simplified.{flat}
-use Rattle.regenerate.proofs.SimplifiedRuns.{form-is}
+use Rattle.simplified_forms.specs.Simplified.{flat}
+use Rattle.simplified_laws.proofs.SimplifiedRuns.{form-is}
 
 -- the shared form follows step by step
 abbrev pub SharedProgramsFollow : Type 0

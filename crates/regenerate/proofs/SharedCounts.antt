@@ -25,8 +25,8 @@ use Rattle.cfg_build.specs.Passes.{kind_in}
 use Rattle.redundancy.specs.Available.{Availability}
 use Rattle.redundancy.specs.Candidates.{has_scalar, is_scalar, row_subexpressions, subexpressions, IsCandidate}
 use Rattle.redundancy.specs.Computed.{computed_by, evaluated, expressions, in_item, kind_of_piece, selectors}
-use Rattle.regenerate.specs.InStep.{operations_in, operations_of_run}
-use Rattle.regenerate.specs.Items.{is_piece_of, own_piece}
+use Rattle.simplified_laws.specs.InStep.{operations_in, operations_of_run}
+use Rattle.simplified_forms.specs.Items.{is_piece_of, own_piece}
 use Rattle.regenerate.specs.Numbered.{added, number_of, numbers_in}
 use Rattle.regenerate.specs.Shared.{computed, due, is_available, is_one_of, is_shared}
 use Rattle.regenerate.specs.SharedRuns.{shared_steps, IsSharedBy}

@@ -15,7 +15,7 @@ use Rattle.redundancy.specs.Available.{Availability, IsAvailability}
 use Rattle.regenerate.specs.declared.ends.RewriteEnd.TheVariants.{TooManyNames, TooManyStatements, LongText}
 use Rattle.regenerate.specs.Numbered.{number_of}
 use Rattle.regenerate.specs.Shared.{has_many_names, refusal, shared_flat, shared_program, with_temporaries, AreNumbers, IsShared}
-use Rattle.regenerate.specs.Simplified.{has_many_statements}
+use Rattle.simplified_forms.specs.Simplified.{has_many_statements}
 use Rattle.regenerate.proofs.NumberLemmas.{number_in-is}
 use Rattle.regenerate.proofs.ProperCandidates.{candidate-proper, place-number}
 use Rattle.regenerate.proofs.SharedSpread.{shared-flat}

@@ -22,13 +22,13 @@ use Rattle.flat_programs.specs.Flow.{IsTable as IsFlatTable}
 use Rattle.redundancy.specs.Available.{Availability}
 use Rattle.redundancy.specs.Computed.{computed_by}
 use Rattle.cfg_build.specs.Flow.{flow, piece_at}
-use Rattle.regenerate.specs.Items.{own_piece}
+use Rattle.simplified_forms.specs.Items.{own_piece}
 use Rattle.regenerate.specs.Numbered.{added, number_of, IsSharedNumber}
 use Rattle.regenerate.specs.Shared.{due, computed, is_available, is_one_of, is_shared, kept_value, replaced_in, shared_flat, shared_lines}
-use Rattle.regenerate.specs.Tables.{IsTable}
+use Rattle.simplified_forms.specs.Tables.{IsTable}
 use Rattle.regenerate.proofs.NumberLemmas.{numbers_in-below}
-use Rattle.regenerate.proofs.RangeCounts.{entry_read}
-use Rattle.regenerate.proofs.StatementLemmas.{lines-more}
+use Rattle.simplified_forms.proofs.RangeCounts.{entry_read}
+use Rattle.simplified_forms.proofs.StatementLemmas.{lines-more}
 
 pub table-again : (f : ℕ → ℕ) (n : ℕ) (table : List ℕ) → IsFlatTable f n table → IsTable f n table
 table-again f n table is = record { size = is.size; entry = is.entry }

@@ -17,7 +17,7 @@ use Rattle.regenerate.specs.declared.ends.RewriteEnd.TheVariants.{TooManyNames, 
 use Rattle.regenerate.specs.Numbered.{number_of}
 use Rattle.regenerate.specs.Shared.{has_many_names, most_words, refusal, shared, shared_flat, with_temporaries, IsRefused, IsShared, IsSharedText, IsSharing}
 use Rattle.regenerate.specs.SharedParts.{declared_alone}
-use Rattle.regenerate.specs.Simplified.{has_many_statements, most_statements}
+use Rattle.simplified_forms.specs.Simplified.{has_many_statements, most_statements}
 use Rattle.regenerate.specs.Temporaries.{free_names}
 use Rattle.regenerate.proofs.NumberLemmas.{number_in-is}
 use Rattle.regenerate.proofs.ProperCandidates.{candidate-proper, place-number}

@@ -19,7 +19,7 @@ use Rattle.flat_programs.specs.Executables.{executables, executables_at, executa
 use Rattle.flat_programs.specs.FlatForm.{choices, AreStatementsOf, HasFewStatements}
 use Rattle.redundancy.specs.Available.{Availability}
 use Rattle.regenerate.specs.Shared.{due, kept_value, replaced_in, shared_flat, shared_lines, with_temporaries}
-use Rattle.regenerate.specs.Simplified.{has_many_statements, most_statements}
+use Rattle.simplified_forms.specs.Simplified.{has_many_statements, most_statements}
 use Rattle.regenerate.proofs.SharedSpread.{part}
 use Rattle.regenerate.proofs.SharedTable.{at-most}
 use Rattle.regenerate.proofs.SpreadFlat.{image}

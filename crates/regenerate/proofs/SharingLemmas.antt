@@ -14,7 +14,7 @@ use Rattle.cfg_build.specs.Flow.{flow, piece_at, piece_in}
 use Rattle.cfg_build.specs.Joined.{FlowGraph}
 use Rattle.redundancy.specs.Available.{Availability, available_at}
 use Rattle.redundancy.specs.Computed.{computed_by}
-use Rattle.regenerate.specs.Items.{own_piece}
+use Rattle.simplified_forms.specs.Items.{own_piece}
 use Rattle.regenerate.proofs.NumberLemmas.{numbers_in-below}
 
 pub numbers-one : (ds : List Expr) (e : Expr) → numbers_in ds (e ∷ []) ≡ option_to_list (number_in ds e)

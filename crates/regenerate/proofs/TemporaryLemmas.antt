@@ -7,7 +7,7 @@ use Rattle.std.proofs.lemmas.Slice.Eq.{bytes_eq-Decides}
 use Rattle.std.proofs.lemmas.List.FromFn.{filter_of_map_range_with_len_more}
 use Rattle.std.proofs.lemmas.List.Folds.{list_any_more}
 use native.Mathlib.Nat.{div-div-eq-div-mul}
-use Rattle.regenerate.specs.Plans.{answer}
+use Rattle.simplified_forms.specs.Plans.{answer}
 use Rattle.f77_tree.specs.declared.programs.NameInfo.{NameInfo}
 use Rattle.regenerate.specs.Temporaries.{free_up_to, is_in_use, last_number, temporary_name}
 

@@ -9,7 +9,7 @@ use Rattle.f77_tree.specs.declared.expressions.Expr.TheVariants.{Const, Truth, I
 use Rattle.f77_tree.specs.declared.programs.Program.{Program}
 use Rattle.redundancy.specs.Available.{Availability}
 use Rattle.redundancy.specs.Candidates.{row_subexpressions}
-use Rattle.regenerate.specs.Plans.{AreTold}
+use Rattle.simplified_forms.specs.Plans.{AreTold}
 use Rattle.regenerate.specs.Shared.{is_one_of, is_shared, temporary}
 
 -- ---- numbers

@@ -13,7 +13,7 @@ use Rattle.const_prop.specs.Right.{AreRouted}
 use Rattle.const_prop.specs.Table.{Knowns}
 use Rattle.redundancy.specs.Available.{Availability}
 use Rattle.regenerate.specs.SharedRuns.{AgreeUpTo, IsSharedBy}
-use Rattle.regenerate.specs.Simplified.{IsSimplified}
+use Rattle.simplified_forms.specs.Simplified.{IsSimplified}
 
 -- After n steps of the program the rewritten one agrees with it, on its words, after at most so many steps for each of them: three, and
 -- one for each operation of the statement that asks for most.

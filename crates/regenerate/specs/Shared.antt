@@ -20,8 +20,8 @@ use Rattle.redundancy.specs.Available.{Availability, available_at}
 use Rattle.redundancy.specs.Computed.{computed_by}
 use Rattle.regenerate.specs.declared.ends.RewriteEnd.{RewriteEnd}
 use Rattle.regenerate.specs.declared.ends.RewriteEnd.TheVariants.{TooManyNames, TooManyStatements, LongText}
-use Rattle.regenerate.specs.Items.{own_piece}
-use Rattle.regenerate.specs.Simplified.{has_many_statements}
+use Rattle.simplified_forms.specs.Items.{own_piece}
+use Rattle.simplified_forms.specs.Simplified.{has_many_statements}
 use Rattle.regenerate.specs.Temporaries.{free_names}
 
 -- no program has more words

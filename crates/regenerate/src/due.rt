@@ -3,7 +3,7 @@
 ghost use Rattle.std.specs.Prelude.{◌≡◌, ◌<◌, [], ◌&&◌, not, if◌then◌else◌, All, Some, length, filter, fold, IfOk, OnOk};
 ghost use Rattle.cfg_build.specs.Flow.{flow};
 ghost use Rattle.redundancy.specs.Available.{available_at};
-ghost use Rattle.regenerate.specs.Items.{own_piece};
+ghost use Rattle.simplified_forms.specs.Items.{own_piece};
 ghost use Rattle.regenerate.specs.Numbered.{added, AreTemporaries, number_of};
 ghost use Rattle.regenerate.specs.Shared.{due as due_at, is_one_of as is_among, is_shared};
 
@@ -20,7 +20,7 @@ pub(crate) fn due(
     f: &Flow,
     k: u32,
     node: u32,
-) -> Result<Vec<u32>, NoMemory>
+) -> Result<Vec<usize>, NoMemory>
     requires names { AreTemporaries t.now.q.now t.now.a.now t.now.names.now }
     requires flow { f.now ≡ flow t.now.q.now.execs }
     requires pieces { t.now.a.now.pieces ≡ f.now.graph.nodes }
@@ -41,8 +41,8 @@ fn due_among(
     alloc: Global,
     t: &Temporaries,
     node: u32,
-    numbers: &[u32],
-) -> Result<Vec<u32>, NoMemory>
+    numbers: &[usize],
+) -> Result<Vec<usize>, NoMemory>
     requires names { AreTemporaries t.now.q.now t.now.a.now t.now.names.now }
     requires node { node < t.now.a.now.pieces }
     requires numbers { All (λ n. n < length t.now.a.now.candidates) numbers.now }
@@ -56,7 +56,7 @@ fn due_among(
 }
 
 /// Appends a candidate that is shared and isn't available at a piece, if it isn't there yet.
-fn add_due(t: &Temporaries, node: u32, n: u32, due: &mut Vec<u32>) -> Result<(), NoMemory>
+fn add_due(t: &Temporaries, node: u32, n: usize, due: &mut Vec<usize>) -> Result<(), NoMemory>
     requires names { AreTemporaries t.now.q.now t.now.a.now t.now.names.now }
     requires node { node < t.now.a.now.pieces }
     requires n { n < length t.now.a.now.candidates }
@@ -69,7 +69,7 @@ fn add_due(t: &Temporaries, node: u32, n: u32, due: &mut Vec<u32>) -> Result<(),
 }
 
 /// Whether a candidate is shared and isn't available at a piece.
-fn is_due(t: &Temporaries, node: u32, n: u32) -> bool
+fn is_due(t: &Temporaries, node: u32, n: usize) -> bool
     requires names { AreTemporaries t.now.q.now t.now.a.now t.now.names.now }
     requires node { node < t.now.a.now.pieces }
     requires n { n < length t.now.a.now.candidates }
@@ -82,7 +82,7 @@ fn is_due(t: &Temporaries, node: u32, n: u32) -> bool
 }
 
 /// Appends a number, if it isn't there yet.
-fn add(n: u32, found: &mut Vec<u32>) -> Result<(), NoMemory>
+fn add(n: usize, found: &mut Vec<usize>) -> Result<(), NoMemory>
     ensures { OnOk result (found.new.items ≡ added found.old.items n) }
 {
     if is_one_of(found, n) {
@@ -93,7 +93,7 @@ fn add(n: u32, found: &mut Vec<u32>) -> Result<(), NoMemory>
 }
 
 /// Whether a number stands among these.
-fn is_one_of(ns: &[u32], n: u32) -> bool
+fn is_one_of(ns: &[usize], n: usize) -> bool
     ensures { result ≡ is_among ns.now n }
 {
     for m in ns {

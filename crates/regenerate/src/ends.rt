@@ -1,25 +1,5 @@
 use df_sequence::NoMemory;
 
-/// Why a program wasn't simplified.
-#[derive(Clone, Copy, Debug, PartialEq, Eq)]
-pub enum FlatEnd {
-    /// Its simplified form has more than 4,000 statements.
-    TooManyStatements,
-    /// There was no memory.
-    NoMemory,
-}
-
-impl From<NoMemory> for FlatEnd {
-    ghost use Rattle.std.specs.Prelude.{◌≡◌};
-    ghost use Rattle.regenerate.specs.declared.ends.FlatEnd.TheVariants.{NoMemory};
-
-    ghost from_gives = { λ _ e. e ≡ NoMemory };
-
-    fn from(_refused: NoMemory) -> FlatEnd {
-        FlatEnd::NoMemory
-    }
-}
-
 /// Why repeated expressions of a program weren't shared.
 #[derive(Clone, Copy, Debug, PartialEq, Eq)]
 pub enum RewriteEnd {

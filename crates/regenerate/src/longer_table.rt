@@ -6,7 +6,7 @@ ghost use Rattle.f77_tree.specs.Value.{IsExpression};
 ghost use Rattle.regenerate.specs.Numbered.{number_of};
 ghost use Rattle.regenerate.specs.Shared.{candidate, is_shared, shared as all_shared, temporaries, with_temporaries as with_all};
 ghost use Rattle.regenerate.specs.SharedParts.{declared_alone};
-ghost use Rattle.regenerate.specs.Tables.{AreAnswers};
+ghost use Rattle.simplified_forms.specs.Tables.{AreAnswers};
 ghost use Rattle.regenerate.specs.Temporaries.{free_names};
 
 use df_sequence::{Copied, NoMemory, Sequence, WordList};
@@ -21,20 +21,20 @@ pub(crate) fn shared_numbers(
     q: &Program,
     a: &Avail,
     shared: &[bool],
-) -> Result<Vec<u32>, NoMemory>
+) -> Result<Vec<usize>, NoMemory>
     requires { AreAnswers (is_shared q.now a.now (number_of a.now)) (length a.now.candidates) shared.now }
     ensures { IfOk result (λ ns. ns.items ≡ all_shared q.now a.now (number_of a.now)) }
 {
     let _program = q;
     let mut numbers = Vec::new(alloc);
     for n in 0..a.count() {
-        append_one(n, shared[n as usize], &mut numbers)?;
+        append_one(n, shared[n], &mut numbers)?;
     }
     Ok(numbers)
 }
 
 /// Appends a number where it is told to be one of them.
-fn append_one(n: u32, is_one: bool, numbers: &mut Vec<u32>) -> Result<(), NoMemory>
+fn append_one(n: usize, is_one: bool, numbers: &mut Vec<usize>) -> Result<(), NoMemory>
     ensures { OnOk result (numbers.new.items ≡ numbers.old.items ++ (if is_one then (n ∷ []) else [])) }
 {
     if !is_one {
@@ -49,7 +49,7 @@ pub(crate) fn with_temporaries(
     alloc: Global,
     q: &Program,
     a: &Avail,
-    shared: &[u32],
+    shared: &[usize],
     free: &[Name],
 ) -> Result<Program, NoMemory>
     requires shared { shared.now ≡ all_shared q.now a.now (number_of a.now) }
@@ -79,7 +79,7 @@ fn longer_names(
     alloc: Global,
     q: &Program,
     a: &Avail,
-    shared: &[u32],
+    shared: &[usize],
     free: &[Name],
 ) -> Result<NameInfoList, NoMemory>
     requires shared { shared.now ≡ all_shared q.now a.now (number_of a.now) }
@@ -101,7 +101,7 @@ fn longer_names(
 }
 
 /// What the table has of a temporary: the word j after those of the program is its place.
-fn temporary_info(alloc: Global, q: &Program, a: &Avail, name: Name, n: u32, j: u32) -> NameInfo
+fn temporary_info(alloc: Global, q: &Program, a: &Avail, name: Name, n: usize, j: u32) -> NameInfo
     requires n { n < length a.now.candidates }
     requires expressions { All (IsExpression q.now.names) a.now.candidates }
     requires place { q.now.words + j < 2 ^ 32 }

@@ -82,12 +82,12 @@ fn temporary(t: &Temporaries, e: &Expr) -> Option<u32>
 }
 
 /// The temporary of a candidate, where it is shared.
-pub(crate) fn name_of(t: &Temporaries, n: u32) -> Option<u32>
+pub(crate) fn name_of(t: &Temporaries, n: usize) -> Option<u32>
     requires names { AreTemporaries t.now.q.now t.now.a.now t.now.names.now }
     requires n { n < length t.now.a.now.candidates }
     ensures { result ≡ temporary_of t.now.q.now t.now.a.now n }
 {
-    t.names[n as usize]
+    t.names[n]
 }
 
 /// A name without subscripts.

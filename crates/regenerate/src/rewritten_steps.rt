@@ -2,8 +2,8 @@
 
 ghost use Rattle.regenerate.specs.RewrittenSteps.{RewrittenProgramsFollow};
 
-use crate::running::{runs_take_few_operations, simplified_programs_print_alike};
 use crate::shared_runs::{shared_programs_follow, shared_steps_are_few};
+use simplified_laws::{runs_take_few_operations, simplified_programs_print_alike};
 
 /// Over data of words the shared form of the simplified form of a program follows the program: for each step it takes at most three
 /// steps, and one for each operation of the statement that asks for most.

@@ -14,7 +14,6 @@ use crate::names::temporary_names;
 use crate::replacing::Temporaries;
 use crate::shared_lines::statements_with_temporaries;
 use crate::sharing::shared_candidates;
-use crate::simplified::{MOST_STATEMENTS, has_many_statements};
 use crate::temporaries::free_names;
 use alias_classes::Classes;
 use cfg_build::Flow;
@@ -23,6 +22,7 @@ use flat_programs::{
     FlatList, executables_tell_statements, has_long_text, print_unless_long, program_of,
 };
 use redundancy::Avail;
+use simplified_forms::{MOST_STATEMENTS, has_many_statements};
 use std::alloc::Global;
 
 // No program has more words.

@@ -5,15 +5,14 @@ ghost use Rattle.cfg_build.specs.Flow.{flow};
 ghost use Rattle.flat_programs.specs.Executables.{executables};
 ghost use Rattle.regenerate.specs.Numbered.{AreTemporaries, IsSharedNumber, number_of};
 ghost use Rattle.regenerate.specs.Shared.{kept_value as value_kept, replaced_in, shared as shared_of, shared_flat, temporary};
-ghost use Rattle.regenerate.specs.Simplified.{most_statements};
+ghost use Rattle.simplified_forms.specs.Simplified.{most_statements};
 
 use crate::due::due;
-use crate::own_pieces::own_pieces;
 use crate::replacing::{Temporaries, name_of, replace_in, scalar};
-use crate::simplified::MOST_STATEMENTS;
 use cfg_build::Flow;
 use df_sequence::{Copied, NoMemory, Sequence};
 use flat_programs::{Flat, FlatLine, FlatList, first_executables};
+use simplified_forms::{MOST_STATEMENTS, own_pieces};
 use std::alloc::Global;
 
 /// The statements of a flat program with temporaries, and before each the assignments that are due there; none where these are more
@@ -22,7 +21,7 @@ pub(crate) fn statements_with_temporaries(
     alloc: Global,
     t: &Temporaries,
     f: &Flow,
-    shared: &[u32],
+    shared: &[usize],
     flat: FlatList,
 ) -> Result<Option<FlatList>, NoMemory>
     requires names { AreTemporaries t.now.q.now t.now.a.now t.now.names.now }
@@ -96,7 +95,7 @@ fn append_statement(
     alloc: Global,
     t: &Temporaries,
     l: &FlatLine,
-    due: &[u32],
+    due: &[usize],
     all: &mut FlatList,
 ) -> Result<(), NoMemory>
     requires names { AreTemporaries t.now.q.now t.now.a.now t.now.names.now }
@@ -113,7 +112,7 @@ fn append_statement(
 }
 
 /// The assignment of a shared candidate to its temporary.
-fn kept_value(alloc: Global, t: &Temporaries, line: u32, n: u32) -> Result<FlatLine, NoMemory>
+fn kept_value(alloc: Global, t: &Temporaries, line: u32, n: usize) -> Result<FlatLine, NoMemory>
     requires names { AreTemporaries t.now.q.now t.now.a.now t.now.names.now }
     requires n { IsSharedNumber t.now.q.now t.now.a.now n }
     ensures { IfOk result (λ l. l ≡ value_kept t.now.q.now t.now.a.now (number_of t.now.a.now) line n) }
@@ -127,7 +126,7 @@ fn kept_value(alloc: Global, t: &Temporaries, line: u32, n: u32) -> Result<FlatL
 }
 
 /// The name of the temporary of a shared candidate.
-fn shared_name(t: &Temporaries, n: u32) -> u32
+fn shared_name(t: &Temporaries, n: usize) -> u32
     requires names { AreTemporaries t.now.q.now t.now.a.now t.now.names.now }
     requires n { IsSharedNumber t.now.q.now t.now.a.now n }
     ensures { result ≡ temporary t.now.q.now t.now.a.now (number_of t.now.a.now) n }

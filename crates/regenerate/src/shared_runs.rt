@@ -11,11 +11,10 @@ ghost use Rattle.f77_tree.specs.Run.{source, Ended, PrintAlike};
 ghost use Rattle.f77_tree.specs.Value.{value, word_at, IsExpression};
 ghost use Rattle.redundancy.specs.Available.{Availability};
 ghost use Rattle.redundancy.specs.Candidates.{subexpressions};
-ghost use Rattle.regenerate.specs.InStep.{operations_of_run};
+ghost use Rattle.simplified_laws.specs.InStep.{operations_of_run};
 ghost use Rattle.regenerate.specs.Shared.{due, replaced, with_temporaries, AreNumbers};
 ghost use Rattle.regenerate.specs.SharedRuns.{shared_steps, AgreeUpTo, HoldValues, IsSharedBy};
 
-use crate::running::runs_take_few_operations;
 use cfg_build::{
     executables_have_own_pieces, flow_graph_is_strong, passes_are_a_walk, passes_lie_within_steps,
     pieces_run_executables,
@@ -29,6 +28,7 @@ use f77_tree::{
 };
 use flat_programs::executables_tell_statements;
 use redundancy::available_expressions_keep_their_values;
+use simplified_laws::runs_take_few_operations;
 
 /// An expression in which temporaries stand for its shared candidates has the value that it had before, over each store in which the
 /// temporaries have the values of the candidates.

@@ -7,23 +7,23 @@ ghost use Rattle.redundancy.specs.Candidates.{subexpressions};
 ghost use Rattle.redundancy.specs.Collected.{all_subexpressions};
 ghost use Rattle.redundancy.specs.Computed.{computed_by, expressions, in_item, selectors};
 ghost use Rattle.regenerate.specs.Numbered.{number_of, numbers_in, parts};
-ghost use Rattle.regenerate.specs.Items.{own_piece};
-ghost use Rattle.regenerate.specs.Plans.{answer};
+ghost use Rattle.simplified_forms.specs.Items.{own_piece};
+ghost use Rattle.simplified_forms.specs.Plans.{answer};
 ghost use Rattle.regenerate.specs.Shared.{computed as computed_at, is_available, is_one_of, is_shared};
-ghost use Rattle.regenerate.specs.Tables.{AreAnswers};
+ghost use Rattle.simplified_forms.specs.Tables.{AreAnswers};
 
-use crate::own_pieces::own_pieces;
 use cfg_build::{Flow, Piece, PieceKind};
 use df_sequence::NoMemory;
 use f77_tree::{ExecKind, Expr, ExprList, Item, ItemList, Program};
 use redundancy::Avail;
+use simplified_forms::own_pieces;
 use std::alloc::Global;
 
 // ---- candidates in expressions
 
 /// Appends the numbers of the candidates in an expression, in the order of evaluation.
 #[cycle(numbers)]
-fn append_numbers(a: &Avail, e: &Expr, found: &mut Vec<u32>) -> Result<(), NoMemory>
+fn append_numbers(a: &Avail, e: &Expr, found: &mut Vec<usize>) -> Result<(), NoMemory>
     ensures { OnOk result (found.new.items ≡ found.old.items ++ numbers_in a.now.candidates (subexpressions e.now)) }
 {
     append_parts(a, e, found)?;
@@ -32,7 +32,7 @@ fn append_numbers(a: &Avail, e: &Expr, found: &mut Vec<u32>) -> Result<(), NoMem
 
 /// Appends the numbers of the candidates that stand in an expression besides itself.
 #[cycle(numbers)]
-fn append_parts(a: &Avail, e: &Expr, found: &mut Vec<u32>) -> Result<(), NoMemory>
+fn append_parts(a: &Avail, e: &Expr, found: &mut Vec<usize>) -> Result<(), NoMemory>
     ensures { OnOk result (found.new.items ≡ found.old.items ++ numbers_in a.now.candidates (parts e.now)) }
 {
     match e {
@@ -46,7 +46,7 @@ fn append_parts(a: &Avail, e: &Expr, found: &mut Vec<u32>) -> Result<(), NoMemor
 
 /// Appends the numbers of the candidates in these expressions.
 #[cycle(numbers)]
-fn append_all_numbers(a: &Avail, es: &ExprList, found: &mut Vec<u32>) -> Result<(), NoMemory>
+fn append_all_numbers(a: &Avail, es: &ExprList, found: &mut Vec<usize>) -> Result<(), NoMemory>
     ensures { OnOk result (found.new.items ≡ found.old.items ++ numbers_in a.now.candidates (all_subexpressions es.now)) }
 {
     for e in es.as_slice() {
@@ -56,7 +56,7 @@ fn append_all_numbers(a: &Avail, es: &ExprList, found: &mut Vec<u32>) -> Result<
 }
 
 /// Appends the number of an expression, if it is a candidate.
-fn append_number(a: &Avail, e: &Expr, found: &mut Vec<u32>) -> Result<(), NoMemory>
+fn append_number(a: &Avail, e: &Expr, found: &mut Vec<usize>) -> Result<(), NoMemory>
     ensures { OnOk result (found.new.items ≡ found.old.items ++ numbers_in a.now.candidates (e.now ∷ [])) }
 {
     if let Some(n) = number(a, e) {
@@ -66,7 +66,7 @@ fn append_number(a: &Avail, e: &Expr, found: &mut Vec<u32>) -> Result<(), NoMemo
 }
 
 /// The number of the candidate that is this expression, if one is.
-pub(crate) fn number(a: &Avail, e: &Expr) -> Option<u32>
+pub(crate) fn number(a: &Avail, e: &Expr) -> Option<usize>
     ensures { result ≡ number_of a.now e.now }
 {
     a.number(e)
@@ -75,7 +75,7 @@ pub(crate) fn number(a: &Avail, e: &Expr) -> Option<u32>
 // ---- candidates that executables compute
 
 /// Appends the numbers of the candidates in the expressions of an executable.
-fn append_exec(a: &Avail, kind: &ExecKind, found: &mut Vec<u32>) -> Result<(), NoMemory>
+fn append_exec(a: &Avail, kind: &ExecKind, found: &mut Vec<usize>) -> Result<(), NoMemory>
     ensures { OnOk result (found.new.items ≡ found.old.items ++ numbers_in a.now.candidates (all_subexpressions (expressions kind.now))) }
 {
     match kind {
@@ -104,7 +104,7 @@ fn append_exec(a: &Avail, kind: &ExecKind, found: &mut Vec<u32>) -> Result<(), N
 }
 
 /// Appends the numbers of the candidates in what a branch goes by. The test of a DO looks at its count alone.
-fn append_branch(a: &Avail, kind: &ExecKind, found: &mut Vec<u32>) -> Result<(), NoMemory>
+fn append_branch(a: &Avail, kind: &ExecKind, found: &mut Vec<usize>) -> Result<(), NoMemory>
     ensures { OnOk result (found.new.items ≡ found.old.items ++ numbers_in a.now.candidates (all_subexpressions (selectors kind.now))) }
 {
     match kind {
@@ -114,7 +114,7 @@ fn append_branch(a: &Avail, kind: &ExecKind, found: &mut Vec<u32>) -> Result<(),
 }
 
 /// Appends the numbers of the candidates in what is printed.
-fn append_items(a: &Avail, items: &ItemList, found: &mut Vec<u32>) -> Result<(), NoMemory>
+fn append_items(a: &Avail, items: &ItemList, found: &mut Vec<usize>) -> Result<(), NoMemory>
     ensures { OnOk result (found.new.items ≡ found.old.items ++ numbers_in a.now.candidates (all_subexpressions (flat_map in_item items.now))) }
 {
     for item in items.as_slice() {
@@ -123,7 +123,7 @@ fn append_items(a: &Avail, items: &ItemList, found: &mut Vec<u32>) -> Result<(),
     Ok(())
 }
 
-fn append_item(a: &Avail, item: &Item, found: &mut Vec<u32>) -> Result<(), NoMemory>
+fn append_item(a: &Avail, item: &Item, found: &mut Vec<usize>) -> Result<(), NoMemory>
     ensures { OnOk result (found.new.items ≡ found.old.items ++ numbers_in a.now.candidates (all_subexpressions (in_item item.now))) }
 {
     match item {
@@ -133,7 +133,12 @@ fn append_item(a: &Avail, item: &Item, found: &mut Vec<u32>) -> Result<(), NoMem
 }
 
 /// Appends the numbers of the candidates that a piece computes.
-fn append_piece(q: &Program, a: &Avail, piece: Piece, found: &mut Vec<u32>) -> Result<(), NoMemory>
+fn append_piece(
+    q: &Program,
+    a: &Avail,
+    piece: Piece,
+    found: &mut Vec<usize>,
+) -> Result<(), NoMemory>
     ensures { OnOk result (found.new.items ≡ found.old.items ++ numbers_in a.now.candidates (computed_by q.now.execs piece)) }
 {
     if q.execs.len() <= piece.exec {
@@ -158,7 +163,7 @@ pub(crate) fn computed(
     f: &Flow,
     a: &Avail,
     node: u32,
-) -> Result<Vec<u32>, NoMemory>
+) -> Result<Vec<usize>, NoMemory>
     ensures { IfOk result (λ ns. ns.items ≡ numbers_in a.now.candidates (computed_by q.now.execs (piece_at f.now.pieces node))) }
 {
     let mut found = Vec::new(alloc);
@@ -182,7 +187,7 @@ pub(crate) fn shared_candidates(
     ensures { IfOk result (λ shared. AreAnswers (is_shared q.now a.now (number_of a.now)) (length a.now.candidates) shared.items) }
 {
     let own = own_pieces(alloc, q, f)?;
-    let mut shared = vec![in alloc; false; a.count() as usize]?;
+    let mut shared = vec![in alloc; false; a.count()]?;
     for k in 0..q.execs.len() {
         note_executable(alloc, q, f, a, k, own[k as usize], &mut shared)?;
     }
@@ -215,7 +220,7 @@ fn note_executable(
 }
 
 /// Notes those of these candidates that are available at a piece.
-fn note(a: &Avail, node: u32, numbers: &[u32], shared: &mut Vec<bool>)
+fn note(a: &Avail, node: u32, numbers: &[usize], shared: &mut Vec<bool>)
     requires node { node < a.now.pieces }
     requires numbers { All (λ n. n < length a.now.candidates) numbers.now }
     requires size { length shared.old.items ≡ length a.now.candidates }
@@ -224,7 +229,7 @@ fn note(a: &Avail, node: u32, numbers: &[u32], shared: &mut Vec<bool>)
 {
     for n in numbers {
         if a.at(*n, node) {
-            shared[*n as usize] = true;
+            shared[*n] = true;
         }
     }
 }

@@ -2,8 +2,8 @@
 
 ghost use Rattle.std.specs.Prelude.{◌≡◌, ◌+◌, ◌<◌, ◌≤◌, ◌||◌, ◌++◌, [], ◌∷◌, if◌then◌else◌, ℕ, bytes_eq, length, take, IfOk, OnOk, IsTrue, MatchOption};
 ghost use Rattle.f77_tree.specs.Name.{is_name};
-ghost use Rattle.regenerate.specs.Plans.{answer};
-ghost use Rattle.regenerate.specs.Tables.{AreAnswers};
+ghost use Rattle.simplified_forms.specs.Plans.{answer};
+ghost use Rattle.simplified_forms.specs.Tables.{AreAnswers};
 ghost use Rattle.regenerate.specs.Temporaries.{digit_at, free_names as all_free, is_in_use, last_number, temporary_name as name_of_temporary};
 
 use df_sequence::NoMemory;

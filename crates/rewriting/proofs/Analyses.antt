@@ -13,8 +13,8 @@ use Rattle.const_prop.specs.Right.{IsProgramRouting}
 use Rattle.const_prop.specs.Table.{Knowns}
 use Rattle.flow_analysis.specs.declared.parts.Analysis.{Analysis}
 use Rattle.flow_analysis.specs.Analysis.{IsAnalysisOf}
-use Rattle.regenerate.specs.Simplified.{IsSimplified}
-use Rattle.regenerate.specs.SimplifiedClasses.{SimplifiedProgramsHaveNoMoreClasses}
+use Rattle.simplified_forms.specs.Simplified.{IsSimplified}
+use Rattle.simplified_laws.specs.SimplifiedClasses.{SimplifiedProgramsHaveNoMoreClasses}
 use Rattle.rewriting.specs.Rewritten.{AreConstantsOf}
 
 module _ (p : Program) (found : Analysis) (is : IsAnalysisOf p found) where

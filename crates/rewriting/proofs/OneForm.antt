@@ -13,7 +13,7 @@ use Rattle.cfg_build.specs.Joined.{finish}
 use Rattle.cfg_build.specs.Shape.{IsShaped}
 use Rattle.dep_routing.specs.OneTable.{OneTouching}
 use Rattle.const_prop.specs.Closed.{IsConstants}
-use Rattle.const_prop.specs.Laws.{ConstantsAreOneTable}
+use Rattle.constant_laws.specs.Laws.{ConstantsAreOneTable}
 use Rattle.const_prop.specs.Right.{IsProgramRouting}
 use Rattle.const_prop.specs.Table.{Knowns, AreSameKnowns}
 use Rattle.flat_programs.specs.declared.statements.FlatLine.{FlatLine}
@@ -23,7 +23,7 @@ use Rattle.redundancy.specs.Available.{Availability, AreSameAvailability}
 use Rattle.redundancy.specs.Laws.{AvailabilityIsOneTable}
 use Rattle.regenerate.specs.declared.ends.RewriteEnd.{RewriteEnd}
 use Rattle.regenerate.specs.Shared.{refusal, shared_program, IsSharing}
-use Rattle.regenerate.specs.Simplified.{flat, has_many_statements, AreSimplified}
+use Rattle.simplified_forms.specs.Simplified.{flat, has_many_statements, AreSimplified}
 use Rattle.rewriting.specs.OneForm.{OneLimit, OneRewrittenForm, OneSimplifiedForm, RewrittenPassesNoLimit}
 use Rattle.rewriting.specs.Rewritten.{AreAvailableOf, AreConstantsOf, IsRefusedOf, IsSharedOf, IsSimplifiedOf, HasManySimplifiedOf}
 use Rattle.rewriting.proofs.SameItems.{same_items}

@@ -13,7 +13,7 @@ use Rattle.dep_routing.specs.Touches.{AreTouches}
 use Rattle.const_prop.specs.Right.{AreRouted}
 use Rattle.const_prop.specs.Table.{Knowns}
 use Rattle.redundancy.specs.Available.{Availability}
-use Rattle.regenerate.specs.InStep.{SimplifiedProgramsLeaveTheSameWords, SimplifiedProgramsPrintAlike}
+use Rattle.simplified_laws.specs.InStep.{SimplifiedProgramsLeaveTheSameWords, SimplifiedProgramsPrintAlike}
 use Rattle.regenerate.specs.RewrittenSteps.{RewrittenProgramsFollow}
 use Rattle.regenerate.specs.SharedRuns.{IsSharedBy}
 use Rattle.rewriting.specs.Rewritten.{AreConstantsOf, IsSharedOf, IsSimplifiedOf}

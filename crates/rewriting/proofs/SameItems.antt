@@ -13,7 +13,7 @@ use Rattle.const_prop.specs.Closed.{is_switch}
 use Rattle.const_prop.specs.Known.{one_of}
 use Rattle.const_prop.specs.Live.{is_excluded, is_other, IsLive}
 use Rattle.const_prop.specs.Table.{Knowns}
-use Rattle.regenerate.specs.Items.{AreItems, IsEnteredPiece, IsItem, IsKeptKind}
+use Rattle.simplified_forms.specs.Items.{AreItems, IsEnteredPiece, IsItem, IsKeptKind}
 
 -- the tables decide the same at each piece
 abbrev pub DecideAlike : Program → (t u : Knowns) → Type 0

@@ -23,8 +23,8 @@ use Rattle.const_prop.specs.Table.{Knowns, AreSameKnowns}
 use Rattle.flat_programs.specs.declared.statements.Flat.{Flat}
 use Rattle.flat_programs.specs.declared.statements.Flat.TheVariants.{Mark, Jump}
 use Rattle.flat_programs.specs.declared.statements.FlatLine.{FlatLine}
-use Rattle.regenerate.specs.Items.{kind_at, own_piece, own_edge, IsEntered, IsItem, IsKeptKind}
-use Rattle.regenerate.specs.Simplified.{decided, flat, has_mark, is_increment, is_jumped_to, jumps, last_jump, left_of, lines, mark, own_jumps, rest, statements, words_at}
+use Rattle.simplified_forms.specs.Items.{kind_at, own_piece, own_edge, IsEntered, IsItem, IsKeptKind}
+use Rattle.simplified_forms.specs.Simplified.{decided, flat, has_mark, is_increment, is_jumped_to, jumps, last_jump, left_of, lines, mark, own_jumps, rest, statements, words_at}
 
 -- what matters of executables that a table tells something of: nothing is asked of an increment, or of END
 abbrev Unless : ExecKind → Type 0 → Type 0

@@ -17,7 +17,7 @@ use Rattle.redundancy.specs.Available.{Availability, IsAvailability}
 use Rattle.regenerate.specs.declared.ends.RewriteEnd.{RewriteEnd}
 use Rattle.regenerate.specs.declared.ends.RewriteEnd.TheVariants.{TooManyStatements}
 use Rattle.regenerate.specs.Shared.{IsRefused, IsShared, IsSharedText}
-use Rattle.regenerate.specs.Simplified.{HasManySimplified, IsSimplified}
+use Rattle.simplified_forms.specs.Simplified.{HasManySimplified, IsSimplified}
 
 -- ---- the simplified form
 

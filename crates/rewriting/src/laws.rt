@@ -5,13 +5,12 @@ ghost use Rattle.rewriting.specs.Running.{RewrittenProgramsLeaveTheSameWords, Re
 
 use alias_classes::one_numbering;
 use cfg_build::{flow_graph_has_shape, flow_graph_is_strong};
-use const_prop::{one_table_of_constants, own_touches_route};
+use constant_laws::{one_table_of_constants, own_touches_route};
 use dep_routing::one_touching;
 use flat_programs::executables_tell_statements;
 use redundancy::one_table_of_availability;
-use regenerate::{
-    rewritten_programs_take_few_steps, shared_programs_print_alike, simplified_programs_print_alike,
-};
+use regenerate::{rewritten_programs_take_few_steps, shared_programs_print_alike};
+use simplified_laws::simplified_programs_print_alike;
 
 /// A program has at most one simplified form in a dialect and at most one rewritten form, whatever tables they are made by. One that has
 /// a rewritten form passes no limit, and two limits that a program passes are the same.

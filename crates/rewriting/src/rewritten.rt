@@ -9,16 +9,18 @@ ghost use Rattle.rewriting.specs.Rewritten.{HasManySimplifiedOf, IsRefusedOf, Is
 
 use alias_classes::{CLASS_WORDS, ClassEnd, Classes, classes_of};
 use cfg_build::{Flow, flow_of};
-use const_prop::{constants, own_touches_route};
+use const_prop::constants;
+use constant_laws::own_touches_route;
 use df_sequence::NoMemory;
 use f77_tree::Program;
 use flat_programs::FlatList;
 use flow_analysis::{Analysis, analyze};
 use redundancy::available;
-use regenerate::{
-    FlatEnd, RewriteEnd, Simplified, share, share_text, shared_programs_are_flat,
+use regenerate::{RewriteEnd, share, share_text, shared_programs_are_flat};
+use simplified_forms::{FlatEnd, Simplified, simplify};
+use simplified_laws::{
     simplified_programs_are_flat, simplified_programs_have_no_more_classes,
-    simplified_statements_are_flat, simplify,
+    simplified_statements_are_flat,
 };
 use std::alloc::Global;
 

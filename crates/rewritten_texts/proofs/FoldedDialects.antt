@@ -19,9 +19,9 @@ use Rattle.f77_tree.specs.Line.{kind_of_expression}
 use Rattle.f77_tree.proofs.AllLemmas.{All-nil, All-cons, All-first, All-rest}
 use Rattle.f77_tree.proofs.DialectLaws.{Apply-dialect, Read-dialect}
 use Rattle.flat_programs.specs.declared.statements.Flat.{Flat}
-use Rattle.regenerate.specs.Folding.{folded, folded_item, row_folded}
-use Rattle.regenerate.specs.Literals.{minus, difference, negative, least_literal, integer_literal, literal, literal_or}
-use Rattle.regenerate.specs.Simplified.{left_of}
+use Rattle.simplified_forms.specs.Folding.{folded, folded_item, row_folded}
+use Rattle.simplified_forms.specs.Literals.{minus, difference, negative, least_literal, integer_literal, literal, literal_or}
+use Rattle.simplified_forms.specs.Simplified.{left_of}
 use Rattle.rewritten_texts.proofs.FlatDialects.{FlatHasDialect}
 
 pub all-map : {X Y : Type 0} (P : X → Type 0) (Q : Y → Type 0) (f : X → Y) (xs : List X) → ((x : X) → P x → Q (f x)) → All P xs → All Q (map f xs)

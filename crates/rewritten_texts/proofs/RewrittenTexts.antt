@@ -18,7 +18,7 @@ use Rattle.redundancy.specs.Available.{Availability, IsAvailability}
 use Rattle.regenerate.specs.declared.ends.RewriteEnd.TheVariants.{TooManyNames, TooManyStatements, LongText}
 use Rattle.regenerate.specs.Shared.{has_many_names, shared_flat, shared_program, with_temporaries, IsShared}
 use Rattle.regenerate.specs.SharedFlat.{SharedStatementsAreFlat}
-use Rattle.regenerate.specs.Simplified.{has_many_statements, most_statements}
+use Rattle.simplified_forms.specs.Simplified.{has_many_statements, most_statements}
 use Rattle.rewriting.specs.Rewritten.{IsRewritten, IsSharedOf}
 use Rattle.read_back.specs.PrintedArrays.{HasNoPrintedArrays}
 use Rattle.read_back.specs.PrintedStatements.{CanBeText}

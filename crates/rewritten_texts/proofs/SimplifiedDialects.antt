@@ -14,8 +14,8 @@ use Rattle.const_prop.specs.Table.{Knowns}
 use Rattle.flat_programs.specs.declared.statements.Flat.{Flat}
 use Rattle.flat_programs.specs.declared.statements.Flat.TheVariants.{Mark, Jump}
 use Rattle.flat_programs.specs.declared.statements.FlatLine.{FlatLine}
-use Rattle.regenerate.specs.Items.{kind_at}
-use Rattle.regenerate.specs.Simplified.{decided, flat, has_mark, last_jump, lines, mark, own, rest, statements, words_at}
+use Rattle.simplified_forms.specs.Items.{kind_at}
+use Rattle.simplified_forms.specs.Simplified.{decided, flat, has_mark, last_jump, lines, mark, own, rest, statements, words_at}
 use Rattle.rewritten_texts.proofs.FlatDialects.{FlatHasDialect, LineHasDialect, ExecIsOfDialect}
 use Rattle.rewritten_texts.proofs.FoldedDialects.{all-flat_map, all-map, all-one, left-dialect}
 

@@ -8,7 +8,7 @@ use Rattle.alias_classes.specs.declared.TheConstants.{CLASS_WORDS}
 use Rattle.df_io.specs.Write.{AppendsPrefix}
 use Rattle.dep_routing.specs.Touch.{touches_in}
 use Rattle.net_board.specs.NetParts.{net_with}
-use Rattle.op_net.specs.GraphView.{operations_of}
+use Rattle.operation_tables.specs.GraphView.{operations_of}
 use Rattle.dfc_jobs.specs.Due.{done}
 use Rattle.graph_texts.specs.EdgeTables.{AreTablesOf}
 use Rattle.graph_texts.specs.NameSets.{AreNameSets}

@@ -99,7 +99,7 @@ invariant_of-result g c =
     let done : c.loop-k.k ≡ length rows = omega (arith, c.loop-k-test.false, c.loop-k.auto.k-end, c.len-k-end.ensures) in
     let nodes : f.graph.nodes ≡ c.pieces-pieces.result = sym c.pieces-pieces.ensures.nodes in
     record {
-      rows = kept_rows (record { candidates = candidates; pieces = c.pieces-pieces.result; missing = c.loop-k.rows.items }) rows c.loop-k.k c.args.p.now f c.args.c.now c.in_ok-table.ensures.table.few
+      rows = kept_rows (record { candidates = candidates; pieces = c.pieces-pieces.result; missing = c.loop-k.rows.items }) rows c.loop-k.k c.args.p.now f c.args.c.now
           (subst (λ n. AreRows n (length candidates) rows) (sym c.pieces-pieces.ensures.count) c.in_ok-table.ensures.rows) done
           (subst (λ n. AreSolved c.args.p.now f c.args.c.now candidates n c.loop-k.k rows c.loop-k.rows.items) nodes c.loop-k.invariant);
       numbers = c.in_ok-table.ensures.table;

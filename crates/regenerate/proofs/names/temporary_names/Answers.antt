@@ -1,8 +1,8 @@
 use Rattle.std.proofs.Common.{◌<◌, ◌+◌, List, ℕ, Option, length, refl, sym, subst, ◌∙◌, arith}
 use Rattle.regenerate.specs.Numbered.{temporary_of}
-use Rattle.regenerate.specs.Plans.{answer, AreTold}
+use Rattle.simplified_forms.specs.Plans.{answer, AreTold}
 use Rattle.regenerate.proofs.NameCounts.{count_within, told-push, temporary-told}
-use Rattle.regenerate.proofs.RangeCounts.{byte-bit, count-range-more}
+use Rattle.simplified_forms.proofs.RangeCounts.{byte-bit, count-range-more}
 use Rattle.regenerate.proofs.names.temporary_names.Goals as goal
 
 pub overflow_add-next : goal.overflow_add-next

@@ -1,7 +1,7 @@
 use Rattle.std.proofs.Common.{◌≡◌, ◌+◌, length}
 use Rattle.std.specs.List.{range_with_len, count_by}
 use Rattle.regenerate.specs.Numbered.{temporary_of}
-use Rattle.regenerate.specs.Plans.{answer, AreTold}
+use Rattle.simplified_forms.specs.Plans.{answer, AreTold}
 use Rattle.regenerate.proofs.names.temporary_names.Given as goal
 
 abbrev pub invariant-loop-is_one : goal.invariant-loop-is_one

@@ -2,7 +2,7 @@ use Rattle.std.proofs.Common.{◌≡◌, ◌+◌, ◌<◌, ◌≤◌, Bool, fals
 use Rattle.f77_tree.specs.declared.programs.Exec.{Exec}
 use Rattle.regenerate.specs.Numbered.{number_of}
 use Rattle.regenerate.specs.Shared.{has_many_names, is_shared, most_words}
-use Rattle.regenerate.specs.Tables.{AreAnswers}
+use Rattle.simplified_forms.specs.Tables.{AreAnswers}
 use Rattle.regenerate.proofs.LongerTableLemmas.{shared-count}
 use Rattle.regenerate.proofs.ProperCandidates.{candidates-fit}
 use Rattle.regenerate.proofs.SharedLineLemmas.{statements-most}

@@ -1,6 +1,6 @@
 use Rattle.std.proofs.Common.{◌≡◌, ◌<◌, ◌||◌, ◌&&◌, ℕ, length, take}
 use Rattle.redundancy.specs.Available.{available_at}
-use Rattle.regenerate.specs.Plans.{answer}
+use Rattle.simplified_forms.specs.Plans.{answer}
 use Rattle.regenerate.specs.Shared.{is_one_of}
 use Rattle.regenerate.proofs.sharing.note.Given as goal
 

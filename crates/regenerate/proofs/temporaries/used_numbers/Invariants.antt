@@ -1,5 +1,5 @@
 use Rattle.std.proofs.Common.{◌≡◌, ◌<◌, ◌+◌, ℕ, length, take}
-use Rattle.regenerate.specs.Plans.{answer}
+use Rattle.simplified_forms.specs.Plans.{answer}
 use Rattle.regenerate.specs.Temporaries.{is_in_use, temporary_name}
 use Rattle.regenerate.proofs.temporaries.used_numbers.Given as goal
 

@@ -8,8 +8,8 @@ use Rattle.dep_routing.specs.Touch.{touches_in}
 use Rattle.const_prop.specs.Table.{knowns_of}
 use Rattle.flat_programs.specs.Executables.{program_of}
 use Rattle.flat_programs.specs.FlatForm.{AreStatementsOf, IsFlatProgram}
-use Rattle.regenerate.specs.declared.simplified.Simplified.{Simplified}
-use Rattle.regenerate.specs.Simplified.{AreSimplified, HasManySimplified, IsSimplified}
+use Rattle.simplified_forms.specs.declared.simplified.Simplified.{Simplified}
+use Rattle.simplified_forms.specs.Simplified.{AreSimplified, HasManySimplified, IsSimplified}
 use Rattle.rewriting.specs.Rewritten.{IsSimplifiedOf}
 use Rattle.rewriting.proofs.Analyses.{constants_of, lines_routed, own_constants, simplified_has_few_classes}
 use Rattle.rewriting.proofs.rewritten.simplified.Goals as goal

@@ -1,4 +1,4 @@
-use Rattle.std.proofs.Common.{◌≡◌, ◌∷◌, ◌++◌, [], length, ap, ◌∙◌, arith, rules}
+use Rattle.std.proofs.Common.{◌≡◌, ◌∷◌, ◌++◌, [], length, ap, ◌∙◌, rules}
 use Rattle.redundancy.proofs.Tables.{table_pushed, numbered-new}
 use Rattle.redundancy.proofs.table.Table.number.Goals as goal
 
@@ -6,8 +6,7 @@ pub returns-clause-table : goal.returns-clause-table
 returns-clause-table c =
     let exprs = c.args.self.now.exprs.items in
     let counted : c.len-k.result ≡ length exprs = search rules in
-    let counted2 : c.len.result ≡ length exprs = search rules in
-    table_pushed exprs c.push-2.new.self.items c.args.self.now.buckets.items c.args.e.now c.bucket-at.result c.len-k.result c.index_mut.result.now c.push.new.self (omega (arith, counted2, c.if-len.false)) c.requires c.bucket-at.ensures c.index_mut.ensures.value c.in_ok-push.ensures counted (c.in_ok-push-2.ensures.items ∙ ap (λ x. exprs ++ x ∷ []) c.in_ok-copy.ensures)
+    table_pushed exprs c.push-2.new.self.items c.args.self.now.buckets.items c.args.e.now c.bucket-at.result c.len-k.result c.index_mut.result.now c.push.new.self c.requires c.bucket-at.ensures c.index_mut.ensures.value c.in_ok-push.ensures counted (c.in_ok-push-2.ensures.items ∙ ap (λ x. exprs ++ x ∷ []) c.in_ok-copy.ensures)
 
 pub returns-clause-number : goal.returns-clause-number
 returns-clause-number c =

@@ -1,0 +1,9 @@
+pub mod Ways
+pub mod Coming
+pub mod Passing
+pub mod Choosing
+pub mod Writing
+pub mod Rightness
+pub mod Runs
+pub mod Living
+pub mod OneTable

@@ -1,6 +1,0 @@
-use Rattle.regenerate.specs.Plans.{answer, keeps}
-use Rattle.regenerate.specs.Tables.{AreAnswers}
-use Rattle.regenerate.proofs.items.kept.Given as goal
-
-abbrev pub invariant-loop-k : goal.invariant-loop-k
-invariant-loop-k l = AreAnswers (keeps l.p (answer l.entered)) l.k l.items.items

@@ -1,8 +1,0 @@
-use Rattle.std.proofs.Common.{◌+◌, drop}
-use Rattle.std.specs.List.{position_or_len}
-use Rattle.f77_tree.specs.Loops.{begun, is_number}
-use Rattle.regenerate.specs.Tables.{IsTable}
-use Rattle.regenerate.proofs.loops.do_starts.Given as goal
-
-abbrev pub invariant-loop-k : goal.invariant-loop-k
-invariant-loop-k l = IsTable (λ n. l.k + position_or_len (λ exec. is_number n (begun exec.kind)) (drop l.k l.p.execs)) l.p.loops l.starts.items

@@ -1,0 +1,9 @@
+pub mod FoldedValues
+pub mod LiveWays
+pub mod LiveRanges
+pub mod LiveItems
+pub mod ItemPlaces
+pub mod InStep
+pub mod SimplifiedFlat
+pub mod SimplifiedClasses
+pub mod RightRuns
