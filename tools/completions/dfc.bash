@@ -20,14 +20,16 @@ _dfc() {
 _dfc_view() {
     local word=${COMP_WORDS[COMP_CWORD]} command=${COMP_WORDS[1]} options=
     if [ "$COMP_CWORD" -eq 1 ]; then
-        options='chart rounds page deps independent check names run dot json profile --help -h --version'
+        options='chart rounds page deps independent check names run lower dot json profile --help -h --version'
     else
         COMPREPLY=($(compgen -f -- "$word"))
         case $command in
-        rounds | page | profile | json | run) options='limit= picks= data= checked forks' ;;
-        dot) options='--regions --lines checked' ;;
-        deps) options='--json checked' ;;
-        *) options='checked' ;;
+        rounds | page | profile | json | run) options='--wide limit= picks= data= checked forks' ;;
+        dot) options='--regions --lines --wide checked' ;;
+        deps) options='--json --wide checked' ;;
+        check | names) options='--wide' ;;
+        lower) options='--map' ;;
+        *) options='--wide checked' ;;
         esac
         [ "$COMP_CWORD" -eq 2 ] && options="$options --help"
     fi

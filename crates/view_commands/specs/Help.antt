@@ -15,6 +15,7 @@ name_of command.Json = codes "json"
 name_of command.Profile = codes "profile"
 name_of command.Check = codes "check"
 name_of command.Names = codes "names"
+name_of command.Lower = codes "lower"
 name_of command.Run = codes "run"
 
 -- the text says how the program is used

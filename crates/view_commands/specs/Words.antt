@@ -7,6 +7,8 @@ use Rattle.view_commands.specs.Numbers.{number_on, numbers_on}
 use Rattle.view_commands.specs.RunWords.{begins_with}
 use Rattle.view_commands.specs.declared.arguments.Job as read_job
 use Rattle.view_commands.specs.declared.arguments.Job.TheVariants as job
+use Rattle.view_commands.specs.declared.arguments.LoweredForm.{LoweredForm}
+use Rattle.view_commands.specs.declared.arguments.LoweredForm.TheVariants as form
 use Rattle.view_commands.specs.declared.arguments.Program as read_program
 use Rattle.view_commands.specs.declared.arguments.Task as read_task
 use Rattle.view_commands.specs.declared.arguments.Task.TheVariants as task
@@ -28,8 +30,9 @@ pub data Shown : Type 0 where
   DependencesJson : Shown
   Independent : (first second : ℕ) → Shown
 
--- a program in a file, with words for its run
+-- a program in a file, in everyday Fortran or not, with words for its run
 pub record Program : Type 0 where
+  pub is_wide : Bool
   pub name : List ℕ
   pub words : List (List ℕ)
 
@@ -39,8 +42,9 @@ pub data Asked : Type 0 where
   HelpOf : Command → Asked
   Version : Asked
   Show : Shown → Option Program → Asked
-  Check : (files : List (List ℕ)) → Asked
+  Check : (is_wide : Bool) (files : List (List ℕ)) → Asked
   Names : Program → Asked
+  Lower : Program → LoweredForm → Asked
   Run : Program → Asked
 
 -- ---- what is meant
@@ -62,15 +66,16 @@ task_meant task.DependencesJson = DependencesJson
 task_meant (task.Independent first second) = Independent first second
 
 abbrev pub program_meant : read_program.Program → Program
-program_meant p = record { name = p.name.now; words = map string_bytes p.words.now }
+program_meant p = record { is_wide = p.is_wide; name = p.name.now; words = map string_bytes p.words.now }
 
 abbrev pub job_meant : read_job.Job → Asked
 job_meant job.Help = Help
 job_meant (job.HelpOf command) = HelpOf command
 job_meant job.Version = Version
 job_meant (job.Show task program) = Show (task_meant task) (option_map program_meant program)
-job_meant (job.Check files) = Check (map string_bytes files.names.now)
+job_meant (job.Check files) = Check files.is_wide (map string_bytes files.names.now)
 job_meant (job.Names program) = Names (program_meant program)
+job_meant (job.Lower program form) = Lower (program_meant program) form
 job_meant (job.Run program) = Run (program_meant program)
 
 -- ---- words
@@ -83,10 +88,13 @@ abbrev pub option_on : (option : List ℕ) → List (List ℕ) → Bool × List 
 option_on option [] = (false, [])
 option_on option (word ∷ words) = if bytes_eq word option then (true, words) else (false, word ∷ words)
 
--- the program that words name, of which the first is no option
+-- the program in the file that words name, of which the first is no option
+abbrev pub file_of : (is_wide : Bool) → List (List ℕ) → Option Program
+file_of is_wide [] = None
+file_of is_wide (name ∷ words) = if is_option name then None else Some (record { is_wide = is_wide; name = name; words = words })
+
 abbrev pub program_of : List (List ℕ) → Option Program
-program_of [] = None
-program_of (name ∷ words) = if is_option name then None else Some (record { name = name; words = words })
+program_of words = let wide = option_on (codes "--wide") words in file_of wide.0 wide.1
 
 -- something of the program that words name, or else of the one that standard input tells
 abbrev pub shown_of : Shown → List (List ℕ) → Option Asked
@@ -113,25 +121,33 @@ abbrev pub dependences_of : List (List ℕ) → Option Asked
 dependences_of words = let json = option_on (codes "--json") words in if json.0 then shown_of DependencesJson json.1 else shown_of Dependences json.1
 
 -- one file or more
-abbrev pub checked_of : List (List ℕ) → Option Asked
-checked_of [] = None
-checked_of (name ∷ names) = if list_any is_option (name ∷ names) then None else Some (Check (name ∷ names))
+abbrev pub checked_of : (is_wide : Bool) → List (List ℕ) → Option Asked
+checked_of is_wide [] = None
+checked_of is_wide (name ∷ names) = if list_any is_option (name ∷ names) then None else Some (Check is_wide (name ∷ names))
 
 abbrev pub files_of : List (List ℕ) → Option Asked
-files_of words = checked_of words
+files_of words = let wide = option_on (codes "--wide") words in checked_of wide.0 wide.1
 
 -- nothing stands after the file
-abbrev pub by_itself : (after : List (List ℕ)) → Program → Option Asked
-by_itself [] p = Some (Names p)
-by_itself (word ∷ words) p = None
+abbrev pub by_itself : (after : List (List ℕ)) → Asked → Option Asked
+by_itself [] asked = Some asked
+by_itself (word ∷ words) asked = None
 
 abbrev pub names_of : List (List ℕ) → Option Asked
-names_of words = option_and_then (λ p. by_itself p.words p) (program_of words)
+names_of words = option_and_then (λ p. by_itself p.words (Names p)) (program_of words)
+
+abbrev pub form_of : (with_map : Bool) → LoweredForm
+form_of true = form.Map
+form_of false = form.Text
+
+-- the lowered form of the program in a file
+abbrev pub lowered_of : List (List ℕ) → Option Asked
+lowered_of words = let mapped = option_on (codes "--map") words in option_and_then (λ p. by_itself p.words (Lower p (form_of mapped.0))) (file_of true mapped.1)
 
 -- ---- commands
 
 abbrev pub command_by : List ℕ → Option Command
-command_by word = if bytes_eq word (codes "chart") then Some command.Chart else if bytes_eq word (codes "rounds") then Some command.Rounds else if bytes_eq word (codes "page") then Some command.Page else if bytes_eq word (codes "deps") then Some command.Deps else if bytes_eq word (codes "independent") then Some command.Independent else if bytes_eq word (codes "dot") then Some command.Dot else if bytes_eq word (codes "json") then Some command.Json else if bytes_eq word (codes "profile") then Some command.Profile else if bytes_eq word (codes "check") then Some command.Check else if bytes_eq word (codes "names") then Some command.Names else if bytes_eq word (codes "run") then Some command.Run else None
+command_by word = if bytes_eq word (codes "chart") then Some command.Chart else if bytes_eq word (codes "rounds") then Some command.Rounds else if bytes_eq word (codes "page") then Some command.Page else if bytes_eq word (codes "deps") then Some command.Deps else if bytes_eq word (codes "independent") then Some command.Independent else if bytes_eq word (codes "dot") then Some command.Dot else if bytes_eq word (codes "json") then Some command.Json else if bytes_eq word (codes "profile") then Some command.Profile else if bytes_eq word (codes "check") then Some command.Check else if bytes_eq word (codes "names") then Some command.Names else if bytes_eq word (codes "lower") then Some command.Lower else if bytes_eq word (codes "run") then Some command.Run else None
 
 -- what a command asks for, by the words after it
 abbrev pub asked_of : Command → List (List ℕ) → Option Asked
@@ -145,6 +161,7 @@ asked_of command.Deps words = dependences_of words
 asked_of command.Independent words = pair_of words
 asked_of command.Check words = files_of words
 asked_of command.Names words = names_of words
+asked_of command.Lower words = lowered_of words
 asked_of command.Run words = option_map Run (program_of words)
 
 abbrev pub asks_help : List (List ℕ) → Bool

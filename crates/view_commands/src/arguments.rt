@@ -3,7 +3,7 @@
 ghost use Rattle.std.specs.Prelude.{◌≡◌, map};
 ghost use Rattle.std.specs.String.{string_bytes};
 ghost use Rattle.view_commands.specs.Numbers.{Answers};
-ghost use Rattle.view_commands.specs.Words.{about_program as spec_about_program, asked_by, asked_of as spec_asked_of, asked_with, asks_help as spec_asks_help, files_of as spec_files_of, is_option as spec_is_option, job_meant, lines_of as spec_lines_of, names_of as spec_names_of, option_on, pair_of as spec_pair_of, picture_of as spec_picture_of, program_meant, program_of as spec_program_of, shown_of, task_meant};
+ghost use Rattle.view_commands.specs.Words.{about_program as spec_about_program, asked_by, asked_of as spec_asked_of, asked_with, asks_help as spec_asks_help, file_of as spec_file_of, files_of as spec_files_of, form_of as spec_form_of, is_option as spec_is_option, job_meant, lines_of as spec_lines_of, lowered_of as spec_lowered_of, names_of as spec_names_of, option_on, pair_of as spec_pair_of, picture_of as spec_picture_of, program_meant, program_of as spec_program_of, shown_of, task_meant};
 
 use crate::commands::{Command, command_of};
 use crate::numbers::{number_in, numbers_in};
@@ -26,13 +26,26 @@ pub enum Job<'a> {
     Check(Files<'a>),
     /// What the names of copies stand for.
     Names(Program<'a>),
+    /// The text of a program in the language of `dfc`, or the map of its lines and names to those of the file.
+    Lower(Program<'a>, LoweredForm),
     /// What a program prints.
     Run(Program<'a>),
+}
+
+/// What is written of a lowered program.
+#[derive(Clone, Copy, Debug, PartialEq, Eq)]
+pub enum LoweredForm {
+    /// Its text.
+    Text,
+    /// For each line of the text that of the file, and for each name that was made shorter that of the file.
+    Map,
 }
 
 /// A program in a file.
 #[derive(Clone, Copy)]
 pub struct Program<'a> {
+    /// Whether it is everyday Fortran, which is lowered into the language of `dfc`.
+    pub is_wide: bool,
     /// The name of the file.
     pub name: &'a str,
     /// The words for its run.
@@ -42,6 +55,8 @@ pub struct Program<'a> {
 /// Files that are checked.
 #[derive(Clone, Copy)]
 pub struct Files<'a> {
+    /// Whether they are everyday Fortran.
+    pub is_wide: bool,
     /// Their names.
     pub names: &'a [String],
 }
@@ -138,6 +153,7 @@ fn asked_of(alloc: Global, command: Command, words: &[String]) -> Result<Job<'_>
         Command::Independent => pair_of(alloc, words),
         Command::Check => files_of(words),
         Command::Names => names_of(words),
+        Command::Lower => lowered_of(words),
         Command::Run => Ok(Job::Run(program_of(words)?)),
     }
 }
@@ -194,10 +210,11 @@ fn pair_of(alloc: Global, words: &[String]) -> Result<Job<'_>, Fault>
 fn files_of(words: &[String]) -> Result<Job<'_>, Fault>
     ensures { Answers job_meant result (spec_files_of (map string_bytes words.now)) }
 {
-    if words.is_empty() || any_begins(words, "-") {
+    let (is_wide, names) = after_option("--wide", words);
+    if names.is_empty() || any_begins(names, "-") {
         return Err(Fault::Usage);
     }
-    Ok(Job::Check(Files { names: words }))
+    Ok(Job::Check(Files { is_wide, names }))
 }
 
 // The program whose names are told. Nothing stands after it.
@@ -211,12 +228,44 @@ fn names_of(words: &[String]) -> Result<Job<'_>, Fault>
     }
 }
 
-// The program that words name, of which the first is no option.
+// The file that is lowered. Nothing stands after it.
+fn lowered_of(words: &[String]) -> Result<Job<'_>, Fault>
+    ensures { Answers job_meant result (spec_lowered_of (map string_bytes words.now)) }
+{
+    let (with_map, words) = after_option("--map", words);
+    let program = file_of(true, words)?;
+    match program.words {
+        [] => Ok(Job::Lower(program, form_of(with_map))),
+        _ => Err(Fault::Usage),
+    }
+}
+
+// The text, or the map.
+fn form_of(with_map: bool) -> LoweredForm
+    ensures { result ≡ spec_form_of with_map }
+{
+    if with_map {
+        LoweredForm::Map
+    } else {
+        LoweredForm::Text
+    }
+}
+
+// The program that words name.
 fn program_of(words: &[String]) -> Result<Program<'_>, Fault>
     ensures { Answers program_meant result (spec_program_of (map string_bytes words.now)) }
 {
+    let (is_wide, words) = after_option("--wide", words);
+    file_of(is_wide, words)
+}
+
+// The program in the file that words name, of which the first is no option.
+fn file_of(is_wide: bool, words: &[String]) -> Result<Program<'_>, Fault>
+    ensures { Answers program_meant result (spec_file_of is_wide (map string_bytes words.now)) }
+{
     match words {
         [name, words @ ..] if !is_option(name.as_str()) => Ok(Program {
+            is_wide,
             name: name.as_str(),
             words,
         }),

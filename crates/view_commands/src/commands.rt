@@ -24,6 +24,8 @@ pub enum Command {
     Check,
     /// What the names of copies stand for.
     Names,
+    /// A program in the language of `dfc`.
+    Lower,
     /// What a program prints.
     Run,
 }
@@ -43,6 +45,7 @@ pub fn command_of(word: &str) -> Option<Command>
         "profile" => Some(Command::Profile),
         "check" => Some(Command::Check),
         "names" => Some(Command::Names),
+        "lower" => Some(Command::Lower),
         "run" => Some(Command::Run),
         _ => None,
     }

@@ -7,7 +7,7 @@ mod help;
 mod numbers;
 mod run_words;
 
-pub use arguments::{Files, Job, Program, Task, job_of};
+pub use arguments::{Files, Job, LoweredForm, Program, Task, job_of};
 pub use commands::Command;
 pub use help::{HELP, VERSION, help_of};
 pub use numbers::written_numbers_are_read;

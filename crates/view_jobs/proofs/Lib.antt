@@ -1,2 +1,4 @@
+mod Drawn
 mod Known
 mod Reported
+mod Told

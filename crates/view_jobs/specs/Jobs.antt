@@ -1,8 +1,9 @@
 -- What the words after the program's name come to.
 use Rattle.std.specs.Prelude.{◌≡◌, ℕ, Bool, true, List, Option, None, Some, codes}
 use Rattle.view_commands.specs.Help.{is_help, is_help_of}
-use Rattle.view_commands.specs.Words.{Asked, Check, Help, HelpOf, Names, Run, Show, Version, asked_by}
+use Rattle.view_commands.specs.Words.{Asked, Check, Help, HelpOf, Lower, Names, Run, Show, Version, asked_by}
 use Rattle.view_jobs.specs.Files.{OfKnown}
+use Rattle.view_jobs.specs.Lowered.{LowersFile}
 use Rattle.view_jobs.specs.Programs.{NamesFile, RunsFile, ShowsFile}
 use Rattle.view_jobs.specs.Refused.{ChecksFiles}
 use Rattle.view_jobs.specs.Shown.{ShowsSource}
@@ -21,8 +22,9 @@ DoesJob known (HelpOf command) left rest told now faults faults_now status = Tel
 DoesJob known Version left rest told now faults faults_now status = Adds told now (codes "dfc_view 1\n") × (status ≡ 0)
 DoesJob known (Show shown None) left rest told now faults faults_now status = ShowsSource shown left rest told now × (status ≡ 0)
 DoesJob known (Show shown (Some p)) left rest told now faults faults_now status = OfKnown (known p.name) (λ text. ShowsFile shown p text told now faults faults_now status)
-DoesJob known (Check names) left rest told now faults faults_now status = ChecksFiles known names told now status
+DoesJob known (Check is_wide names) left rest told now faults faults_now status = ChecksFiles is_wide known names told now status
 DoesJob known (Names p) left rest told now faults faults_now status = OfKnown (known p.name) (λ text. NamesFile p text told now faults faults_now status)
+DoesJob known (Lower p form) left rest told now faults faults_now status = OfKnown (known p.name) (λ text. LowersFile form p text told now faults faults_now status)
 DoesJob known (Run p) left rest told now faults faults_now status = OfKnown (known p.name) (λ text. RunsFile p text told now faults faults_now status)
 
 -- The words ask for this job, and it was done.

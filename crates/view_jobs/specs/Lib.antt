@@ -1,6 +1,12 @@
+pub mod Drawn
 pub mod Faults
 pub mod Files
+pub mod Given
 pub mod Jobs
+pub mod Lowered
+pub mod Names
+pub mod Outputs
+pub mod Pages
 pub mod Programs
 pub mod Refused
 pub mod Shown

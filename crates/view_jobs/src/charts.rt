@@ -1,6 +1,13 @@
 //! Lane charts, rounds and pages.
 
-ghost use Rattle.std.specs.Prelude.{◌≡◌, IfOk, Some};
+ghost use Rattle.std.specs.Prelude.{◌≡◌, IfOk, OnOk, Some};
+ghost use Rattle.lane_charts.specs.Page.{IsPage};
+ghost use Rattle.lane_charts.specs.Pictures.{ShowsChart};
+ghost use Rattle.round_charts.specs.Picture.{Shows};
+ghost use Rattle.view_commands.specs.Words.{Chart, Page, Rounds};
+ghost use Rattle.view_jobs.specs.Drawn.{Draws, rounds_by};
+ghost use Rattle.view_jobs.specs.Shown.{ShowsOf};
+ghost use Rattle.view_output.specs.Told.{told};
 
 use df_io::Sink;
 use lane_charts::{ChartFault, Run, lane_chart, page, rounds_chart};
@@ -15,8 +22,24 @@ pub fn write_chart<K: Sink + Drop>(
     printed: &Printed,
     source: &[u8],
     output: &mut Output<K>,
-) -> Result<(), Fault> {
+) -> Result<(), Fault>
+    ensures { OnOk result (ShowsOf Chart printed.now (told K.got output.old) (told K.got output.new)) }
+{
     let (flow, graph) = graphs_of(printed)?;
+    draw_chart(alloc, flow, graph, source, output)?;
+    Ok(())
+}
+
+// Draws the lane chart of these graphs.
+fn draw_chart<K: Sink + Drop>(
+    alloc: Global,
+    flow: &PrintedFlow,
+    graph: &PrintedGraph,
+    source: &[u8],
+    output: &mut Output<K>,
+) -> Result<(), Fault>
+    ensures { OnOk result (Draws (ShowsChart flow.now graph.now) (told K.got output.old) (told K.got output.new)) }
+{
     let chart = lane_chart(alloc, flow, graph, source).map_err(chart_fault)?;
     output.text(chart.as_str())
 }
@@ -27,93 +50,67 @@ pub fn write_rounds<K: Sink + Drop>(
     printed: &Printed,
     source: &[u8],
     output: &mut Output<K>,
-) -> Result<(), Fault> {
+) -> Result<(), Fault>
+    ensures { OnOk result (ShowsOf Rounds printed.now (told K.got output.old) (told K.got output.new)) }
+{
     let (flow, graph) = graphs_of(printed)?;
     let trace = trace_of(printed)?;
     let rounds = rounds_in(alloc, printed, graph, trace)?;
-    let chart = rounds_chart(alloc, flow, graph, trace, rounds.as_slice(), source).map_err(
-        chart_fault,
-    )?;
+    draw_rounds(alloc, flow, graph, trace, rounds.as_slice(), source, output)?;
+    Ok(())
+}
+
+// Draws these rounds of a trace.
+fn draw_rounds<K: Sink + Drop>(
+    alloc: Global,
+    flow: &PrintedFlow,
+    graph: &PrintedGraph,
+    trace: &PrintedTrace,
+    rounds: &[u32],
+    source: &[u8],
+    output: &mut Output<K>,
+) -> Result<(), Fault>
+    ensures { OnOk result (Draws (Shows 500 trace.now.firings.items rounds.now) (told K.got output.old) (told K.got output.new)) }
+{
+    let chart = rounds_chart(alloc, flow, graph, trace, rounds, source).map_err(chart_fault)?;
     output.text(chart.as_str())
 }
 
-/// What a page shows of a run.
-#[derive(Clone, Copy)]
-pub struct ShownRun<'a> {
-    /// What it is called.
-    pub name: &'a str,
-    /// The text with its trace, and all that stands before that.
-    pub printed: &'a Printed,
-    /// What the program prints.
-    pub output: &'a [u8],
-}
-
 /// Writes the page of a program with one run.
-pub fn write_page_of_one<K: Sink + Drop>(
+pub fn write_page<K: Sink + Drop>(
     alloc: Global,
-    run: ShownRun<'_>,
+    printed: &Printed,
     source: &[u8],
     output: &mut Output<K>,
-) -> Result<(), Fault> {
-    let (flow, graph) = graphs_of(run.printed)?;
-    let trace = trace_of(run.printed)?;
-    let rounds = rounds_in(alloc, run.printed, graph, trace)?;
-    let runs = [of_page(run, trace, rounds.as_slice())];
-    let text = page(alloc, flow, graph, runs.as_slice(), source).map_err(chart_fault)?;
-    output.text(text.as_str())
-}
-
-/// Writes the page of a program with two runs. The graph is that of the first one.
-pub fn write_page_of_two<'a, K: Sink + Drop>(
-    alloc: Global,
-    first: ShownRun<'a>,
-    second: ShownRun<'a>,
-    source: &[u8],
-    output: &mut Output<K>,
-) -> Result<(), Fault> {
-    let (_, graph) = graphs_of(first.printed)?;
-    let rounds = BothRounds {
-        first: rounds_in(alloc, first.printed, graph, trace_of(first.printed)?)?,
-        second: rounds_in(alloc, second.printed, graph, trace_of(second.printed)?)?,
-    };
-    write_both(alloc, first, second, &rounds, source, output)
-}
-
-// The rounds of two runs.
-#[derive(Drop)]
-struct BothRounds {
-    first: Vec<u32>,
-    second: Vec<u32>,
-}
-
-// Writes the page of a program with two runs, whose rounds are known.
-fn write_both<'a, K: Sink + Drop>(
-    alloc: Global,
-    first: ShownRun<'a>,
-    second: ShownRun<'a>,
-    rounds: &'a BothRounds,
-    source: &[u8],
-    output: &mut Output<K>,
-) -> Result<(), Fault> {
-    let (flow, graph) = graphs_of(first.printed)?;
-    let first_trace = trace_of(first.printed)?;
-    let second_trace = trace_of(second.printed)?;
-    let runs = [
-        of_page(first, first_trace, rounds.first.as_slice()),
-        of_page(second, second_trace, rounds.second.as_slice()),
-    ];
-    let text = page(alloc, flow, graph, runs.as_slice(), source).map_err(chart_fault)?;
-    output.text(text.as_str())
-}
-
-// A run as a page takes it.
-fn of_page<'a>(run: ShownRun<'a>, trace: &'a PrintedTrace, rounds: &'a [u32]) -> Run<'a> {
-    Run {
-        name: run.name,
+) -> Result<(), Fault>
+    ensures { OnOk result (ShowsOf Page printed.now (told K.got output.old) (told K.got output.new)) }
+{
+    let (flow, graph) = graphs_of(printed)?;
+    let trace = trace_of(printed)?;
+    let rounds = rounds_in(alloc, printed, graph, trace)?;
+    let run = Run {
+        name: "The run",
         trace,
-        rounds,
-        printed: run.output,
-    }
+        rounds: rounds.as_slice(),
+        printed: &[],
+    };
+    draw_page(alloc, flow, graph, &[run], source, output)?;
+    Ok(())
+}
+
+/// Draws a page with these runs.
+pub fn draw_page<K: Sink + Drop>(
+    alloc: Global,
+    flow: &PrintedFlow,
+    graph: &PrintedGraph,
+    runs: &[Run<'_>],
+    source: &[u8],
+    output: &mut Output<K>,
+) -> Result<(), Fault>
+    ensures { OnOk result (Draws (IsPage flow.now graph.now runs.now) (told K.got output.old) (told K.got output.new)) }
+{
+    let text = page(alloc, flow, graph, runs, source).map_err(chart_fault)?;
+    output.text(text.as_str())
 }
 
 /// Both graphs.
@@ -126,18 +123,22 @@ pub fn graphs_of(printed: &Printed) -> Result<(&PrintedFlow, &PrintedGraph), Fau
     }
 }
 
-// The trace.
-fn trace_of(printed: &Printed) -> Result<&PrintedTrace, Fault> {
+/// The trace.
+pub fn trace_of(printed: &Printed) -> Result<&PrintedTrace, Fault>
+    ensures { IfOk result (λ trace. printed.now.trace ≡ Some trace.now) }
+{
     printed.trace.as_ref().ok_or(Fault::NoText)
 }
 
-// The round of each firing of a trace on this graph, which stand in one text.
-fn rounds_in(
+/// The round of each firing of a trace on this graph. The text of the trace comes after those of the graphs.
+pub fn rounds_in(
     alloc: Global,
     printed: &Printed,
     graph: &PrintedGraph,
     trace: &PrintedTrace,
-) -> Result<Vec<u32>, Fault> {
+) -> Result<Vec<u32>, Fault>
+    ensures { IfOk result (λ rounds. rounds.items ≡ rounds_by graph.now trace.now) }
+{
     let before = lines_before_trace(printed.flow.as_ref(), graph);
     rounds_of(alloc, graph, trace.firings.as_slice(), before)
 }

@@ -5,6 +5,11 @@
 mod charts;
 mod faults;
 mod files;
+mod given;
+mod lowered;
+mod names;
+mod outputs;
+mod pages;
 mod programs;
 mod refusals;
 mod top;

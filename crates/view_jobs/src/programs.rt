@@ -1,30 +1,31 @@
 //! Shows and runs the program in a file.
 
-ghost use Rattle.std.specs.Prelude.{◌≡◌, ◌+◌, ◌<◌, ◌^◌, [], IfOk, OnOk, length, map};
+ghost use Rattle.std.specs.Prelude.{◌≡◌, [], IfOk, OnOk, map};
 ghost use Rattle.std.specs.String.{string_bytes};
-ghost use Rattle.made_texts.specs.Texts.{PrintsRun};
-ghost use Rattle.printed_graphs.specs.Printed.{printed_text};
-ghost use Rattle.view_commands.specs.RunWords.{forks_apart};
 ghost use Rattle.view_commands.specs.Words.{program_meant, task_meant};
 ghost use Rattle.view_jobs.specs.Files.{OfKnown};
-ghost use Rattle.view_jobs.specs.Programs.{MadeText, NamesFile, RefusesText, RunsFile, ShowsFile, ShowsMade, needs_run as spec_needs_run};
+ghost use Rattle.view_jobs.specs.Given.{IsWithin, given_meant};
+ghost use Rattle.view_jobs.specs.Programs.{IsMade, MadeText, NamesFile, NamesGiven, RunsFile, RunsGiven, ShowsFile, ShowsGiven, ShowsMade, UnlessRefused, needs_run as spec_needs_run};
 ghost use Rattle.view_output.specs.Told.{told};
 
-use crate::charts::{ShownRun, write_page_of_two};
+use crate::DONE;
 use crate::files::Files;
-use crate::refusals::report_of;
-use crate::view::show_text;
-use crate::{DONE, REFUSED};
-use copied_names::{copied_names, write_names};
+use crate::given::{FileText, Given, read_given};
+use crate::names::write_names;
+use crate::outputs::output_of;
+use crate::pages::show_page;
+use crate::refusals::{refused, tell_refused};
+use crate::view::{seen, show_printed};
+use copied_names::copied_names;
 use df_io::Sink;
 use f77_source::SourceEnd;
-use made_texts::{TextSink, print_graphs, print_output, print_run};
-use printed_graphs::{Printed, read_printed};
+use made_texts::{TextSink, print_graphs, print_run};
+use printed_graphs::Printed;
 use std::alloc::Global;
-use view_commands::{Program, Task, is_checked, tells_run, with_picks, without_picks};
+use view_commands::{Program, Task, is_checked, tells_run};
 use view_output::{Fault, Output};
 
-/// Shows the program in a file, with the words for its run, and answers the status to end with. Where `dfc` refuses it, `errors` gets why.
+/// Shows the program in a file, with the words for its run, and answers the status to end with. Where it is refused, `errors` gets why.
 pub fn show_file<F: Files, K: Sink + Drop, E: Sink + Drop>(
     alloc: Global,
     files: &F,
@@ -33,27 +34,63 @@ pub fn show_file<F: Files, K: Sink + Drop, E: Sink + Drop>(
     output: &mut Output<K>,
     errors: &mut Output<E>,
 ) -> Result<u8, Fault>
-    ensures { IfOk result (λ status. OfKnown (F.known files.now program.entry.name.now) (λ text. ShowsFile (task_meant task) (program_meant program.entry) text (told K.got output.old) (told K.got output.new) (told E.got errors.old) (told E.got errors.new) status)) }
+    ensures { IfOk result (λ status. OfKnown (F.known files.now program.entry.name.now) (λ source. ShowsFile (task_meant task) (program_meant program.entry) source (told K.got output.old) (told K.got output.new) (told E.got errors.old) (told E.got errors.new) status)) }
 {
-    let text = files.read(alloc, program.name)?;
-    let mut made = TextSink::new(alloc);
-    match print_for(alloc, &task, text.as_slice(), program.words, &mut made) {
-        Ok(()) => {
-            show_made(
-                alloc,
-                task,
-                made.text(),
-                text.as_slice(),
-                program.words,
-                output,
-            )?;
-            Ok(DONE)
-        }
-        Err(fault) => refused(alloc, program, text.as_slice(), fault, errors),
+    match read_given(alloc, files, program)? {
+        FileText::Program(given) => show_given(alloc, task, program, &given, output, errors),
+        FileText::Refused(report) => tell_refused(report.as_str(), errors),
     }
 }
 
-/// Runs the program in a file, writes what it prints, and answers the status that `dfc` ends with. Where `dfc` refuses it, `errors` gets why.
+// Shows a program, with the words for its run, and answers the status to end with. Where it is refused, `errors` gets why.
+fn show_given<K: Sink + Drop, E: Sink + Drop>(
+    alloc: Global,
+    task: Task,
+    program: Program<'_>,
+    given: &Given,
+    output: &mut Output<K>,
+    errors: &mut Output<E>,
+) -> Result<u8, Fault>
+    requires { IsWithin (given_meant given.now) }
+    ensures { IfOk result (ShowsGiven (task_meant task) (program_meant program.entry) (given_meant given.now) (told K.got output.old) (told K.got output.new) (told E.got errors.old) (told E.got errors.new)) }
+{
+    match task {
+        Task::Page => show_page(alloc, program, given, output, errors),
+        _ => show_made(alloc, task, program, given, output, errors),
+    }
+}
+
+// Shows what `dfc` prints of a program, with the words for its run, and answers the status to end with. Where it is refused, `errors` gets why.
+fn show_made<K: Sink + Drop, E: Sink + Drop>(
+    alloc: Global,
+    task: Task,
+    program: Program<'_>,
+    given: &Given,
+    output: &mut Output<K>,
+    errors: &mut Output<E>,
+) -> Result<u8, Fault>
+    requires { IsWithin (given_meant given.now) }
+    ensures { IfOk result (UnlessRefused (program_meant program.entry) (given_meant given.now) (ShowsMade (task_meant task) (program_meant program.entry).words (given_meant given.now) (told K.got output.old) (told K.got output.new)) (told K.got output.old) (told K.got output.new) (told E.got errors.old) (told E.got errors.new)) }
+{
+    match made_for(alloc, &task, given, program.words) {
+        Ok(printed) => {
+            show_printed(alloc, task, &printed, given.source(), output)?;
+            Ok(DONE)
+        }
+        Err(fault) => refused(alloc, program, given, fault, errors),
+    }
+}
+
+// What a task needs of what `dfc` prints of a program, with lines and names of the source.
+fn made_for(alloc: Global, task: &Task, given: &Given, words: &[String]) -> Result<Printed, Fault>
+    ensures { IfOk result (IsMade (task_meant task.now) (map string_bytes words.now) (given_meant given.now)) }
+{
+    let mut text = TextSink::new(alloc);
+    print_for(alloc, task, given.text(), words, &mut text)?;
+    seen(alloc, given, text.text())
+}
+
+/// Runs the program in a file, writes what it prints, and answers the status that `dfc` ends with. Where it is refused, `errors` gets why.
 pub fn run_file<F: Files, K: Sink + Drop, E: Sink + Drop>(
     alloc: Global,
     files: &F,
@@ -61,20 +98,35 @@ pub fn run_file<F: Files, K: Sink + Drop, E: Sink + Drop>(
     output: &mut Output<K>,
     errors: &mut Output<E>,
 ) -> Result<u8, Fault>
-    ensures { IfOk result (λ status. OfKnown (F.known files.now program.entry.name.now) (λ text. RunsFile (program_meant program.entry) text (told K.got output.old) (told K.got output.new) (told E.got errors.old) (told E.got errors.new) status)) }
+    ensures { IfOk result (λ status. OfKnown (F.known files.now program.entry.name.now) (λ source. RunsFile (program_meant program.entry) source (told K.got output.old) (told K.got output.new) (told E.got errors.old) (told E.got errors.new) status)) }
 {
-    let text = files.read(alloc, program.name)?;
-    let mut made = TextSink::new(alloc);
-    match print_output(alloc, text.as_slice(), program.words, &mut made) {
-        Ok(status) => {
-            output.bytes(made.text())?;
-            Ok(status)
-        }
-        Err(fault) => refused(alloc, program, text.as_slice(), fault, errors),
+    match read_given(alloc, files, program)? {
+        FileText::Program(given) => run_given(alloc, program, &given, output, errors),
+        FileText::Refused(report) => tell_refused(report.as_str(), errors),
     }
 }
 
-/// Tells what the names of subroutines become in the expansion of the program in a file, and answers the status to end with. Where `dfc` refuses it, `errors`
+// Runs a program, writes what it prints, and answers the status that `dfc` ends with. Where it is refused, `errors` gets why.
+fn run_given<K: Sink + Drop, E: Sink + Drop>(
+    alloc: Global,
+    program: Program<'_>,
+    given: &Given,
+    output: &mut Output<K>,
+    errors: &mut Output<E>,
+) -> Result<u8, Fault>
+    requires { IsWithin (given_meant given.now) }
+    ensures { IfOk result (RunsGiven (program_meant program.entry) (given_meant given.now) (told K.got output.old) (told K.got output.new) (told E.got errors.old) (told E.got errors.new)) }
+{
+    match output_of(alloc, given, program.words) {
+        Ok((text, status)) => {
+            output.bytes(text.as_slice())?;
+            Ok(status)
+        }
+        Err(fault) => refused(alloc, program, given, fault, errors),
+    }
+}
+
+/// Tells what the names of subroutines become in the expansion of the program in a file, and answers the status to end with. Where it is refused, `errors`
 /// gets why.
 pub fn show_names<F: Files, K: Sink + Drop, E: Sink + Drop>(
     alloc: Global,
@@ -83,41 +135,32 @@ pub fn show_names<F: Files, K: Sink + Drop, E: Sink + Drop>(
     output: &mut Output<K>,
     errors: &mut Output<E>,
 ) -> Result<u8, Fault>
-    ensures { IfOk result (λ status. OfKnown (F.known files.now program.entry.name.now) (λ text. NamesFile (program_meant program.entry) text (told K.got output.old) (told K.got output.new) (told E.got errors.old) (told E.got errors.new) status)) }
+    ensures { IfOk result (λ status. OfKnown (F.known files.now program.entry.name.now) (λ source. NamesFile (program_meant program.entry) source (told K.got output.old) (told K.got output.new) (told E.got errors.old) (told E.got errors.new) status)) }
 {
-    let text = files.read(alloc, program.name)?;
-    match copied_names(alloc, text.as_slice(), is_checked(program.words)) {
-        Ok(names) => {
-            write_names(names.as_slice(), output)?;
-            Ok(DONE)
-        }
-        Err(SourceEnd::Refused(_)) => {
-            refused(alloc, program, text.as_slice(), Fault::Refused, errors)
-        }
-        Err(SourceEnd::NoMemory) => Err(Fault::NoMemory),
+    match read_given(alloc, files, program)? {
+        FileText::Program(given) => names_given(alloc, program, &given, output, errors),
+        FileText::Refused(report) => tell_refused(report.as_str(), errors),
     }
 }
 
-// Tells why a program is refused, where that is the fault, and answers the status to end with.
-fn refused<E: Sink + Drop>(
+// Tells what the names of subroutines become in the expansion of a program, and answers the status to end with. Where it is refused, `errors` gets why.
+fn names_given<K: Sink + Drop, E: Sink + Drop>(
     alloc: Global,
     program: Program<'_>,
-    text: &[u8],
-    fault: Fault,
+    given: &Given,
+    output: &mut Output<K>,
     errors: &mut Output<E>,
 ) -> Result<u8, Fault>
-    requires { length text.now + 1 < 2 ^ 32 }
-    ensures { IfOk result (RefusesText (program_meant program.entry) text.now (told E.got errors.old) (told E.got errors.new)) }
+    requires { IsWithin (given_meant given.now) }
+    ensures { IfOk result (NamesGiven (program_meant program.entry) (given_meant given.now) (told K.got output.old) (told K.got output.new) (told E.got errors.old) (told E.got errors.new)) }
 {
-    if fault != Fault::Refused {
-        return Err(fault);
-    }
-    match report_of(alloc, program.name, text, is_checked(program.words))? {
-        Some(report) => {
-            errors.text(report.as_str())?;
-            Ok(REFUSED)
+    match copied_names(alloc, given.text(), is_checked(program.words)) {
+        Ok(names) => {
+            write_names(given.map(), names.as_slice(), output)?;
+            Ok(DONE)
         }
-        None => Err(Fault::Refused),
+        Err(SourceEnd::Refused(_)) => refused(alloc, program, given, Fault::Refused, errors),
+        Err(SourceEnd::NoMemory) => Err(Fault::NoMemory),
     }
 }
 
@@ -143,67 +186,14 @@ fn needs_run(task: &Task, words: &[String]) -> bool
     ensures { result ≡ spec_needs_run (task_meant task.now) (map string_bytes words.now) }
 {
     match task {
-        Task::Page | Task::Rounds | Task::Profile => true,
+        Task::Rounds | Task::Profile => true,
         Task::Json => tells_run(words),
         Task::Chart
+        | Task::Page
         | Task::Regions
         | Task::Dot(_)
         | Task::Dependences
         | Task::DependencesJson
         | Task::Independent(..) => false,
     }
-}
-
-// Shows what was made of a program, with the words for its run.
-fn show_made<K: Sink + Drop>(
-    alloc: Global,
-    task: Task,
-    made: &[u8],
-    program: &[u8],
-    words: &[String],
-    output: &mut Output<K>,
-) -> Result<(), Fault>
-    ensures { OnOk result (ShowsMade (task_meant task) made.now (told K.got output.old) (told K.got output.new)) }
-{
-    match task {
-        Task::Page => show_page(alloc, program, words, output),
-        _ => show_text(alloc, task, made, program, output),
-    }
-}
-
-// Shows a page with a run in the order of the text, and one by picks.
-fn show_page<K: Sink + Drop>(
-    alloc: Global,
-    program: &[u8],
-    words: &[String],
-    output: &mut Output<K>,
-) -> Result<(), Fault> {
-    let in_order = without_picks(alloc, words)?;
-    let first = read_run(alloc, program, in_order.as_slice())?;
-    let mut first_output = TextSink::new(alloc);
-    print_output(alloc, program, in_order.as_slice(), &mut first_output)?;
-    let by_picks = with_picks(alloc, words)?;
-    let second = read_run(alloc, program, by_picks.as_slice())?;
-    let mut second_output = TextSink::new(alloc);
-    print_output(alloc, program, by_picks.as_slice(), &mut second_output)?;
-    let first = ShownRun {
-        name: "In the order of the text",
-        printed: &first,
-        output: first_output.text(),
-    };
-    let second = ShownRun {
-        name: "In another order, by picks",
-        printed: &second,
-        output: second_output.text(),
-    };
-    write_page_of_two(alloc, first, second, program, output)
-}
-
-// What `dfc` prints of a program and of a run of it, read.
-fn read_run(alloc: Global, program: &[u8], words: &[String]) -> Result<Printed, Fault>
-    ensures { IfOk result (λ printed. PrintsRun (forks_apart (map string_bytes words.now)) program.now [] (printed_text printed)) }
-{
-    let mut text = TextSink::new(alloc);
-    print_run(alloc, program, words, &mut text)?;
-    Ok(read_printed(alloc, text.text())?)
 }

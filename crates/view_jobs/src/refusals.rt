@@ -1,34 +1,42 @@
 //! What is wrong with a text.
 
-ghost use Rattle.std.specs.Prelude.{◌+◌, ◌<◌, ◌^◌, IfOk, length, map, option_map};
+ghost use Rattle.std.specs.Prelude.{◌≡◌, ◌≤◌, IfOk, None, length, map, option_map};
 ghost use Rattle.std.specs.String.{string_bytes};
 ghost use Rattle.dfc_jobs.specs.Codes.{name_of};
 ghost use Rattle.dfc_jobs.specs.declared.reading.Code.TheVariants as code_kind;
-ghost use Rattle.view_jobs.specs.Files.{OfKnown};
-ghost use Rattle.view_jobs.specs.Refused.{ChecksFiles, ReportsFile, ReportsFiles, TellsFile, TellsReading};
 ghost use Rattle.f77_source.specs.Reading.{reading};
 ghost use Rattle.refusal_reports.specs.Refusals.{IsReportOf};
-ghost use Rattle.view_output.specs.Told.{told};
+ghost use Rattle.source_maps.specs.Places.{map_of};
+ghost use Rattle.view_commands.specs.Words.{program_meant};
+ghost use Rattle.view_jobs.specs.Files.{OfKnown};
+ghost use Rattle.view_jobs.specs.Given.{IsWithin, given_meant};
+ghost use Rattle.view_jobs.specs.Programs.{RefusesProgram};
+ghost use Rattle.view_jobs.specs.Refused.{ChecksFiles, ReportsFile, ReportsFiles, TellsFile, TellsLowering, TellsReading, TellsText, placed as spec_placed};
+ghost use Rattle.view_output.specs.Told.{Adds, told};
 
 use crate::files::Files;
-use crate::{DONE, FAULTY};
+use crate::given::{Given, Lowering, as_it_is, lower_text};
+use crate::{DONE, FAULTY, REFUSED};
 use df_io::Sink;
 use dfc_jobs::Code;
 use f77_source::{Refusal, SourceEnd, read_program};
 use refusal_reports::{refusal_report, too_long_report};
+use source_maps::SourceMap;
 use std::alloc::Global;
+use view_commands::{Program, is_checked};
 use view_output::{Fault, Output};
 
 /// Tells of each file what is wrong with it, and answers the status to end with: 1 where anything is.
 pub fn check_files<F: Files, K: Sink + Drop>(
     alloc: Global,
     files: &F,
+    is_wide: bool,
     names: &[String],
     output: &mut Output<K>,
 ) -> Result<u8, Fault>
-    ensures { IfOk result (ChecksFiles (F.known files.now) (map string_bytes names.now) (told K.got output.old) (told K.got output.new)) }
+    ensures { IfOk result (ChecksFiles is_wide (F.known files.now) (map string_bytes names.now) (told K.got output.old) (told K.got output.new)) }
 {
-    if report_files(alloc, files, names, output)? {
+    if report_files(alloc, files, is_wide, names, output)? {
         Ok(FAULTY)
     } else {
         Ok(DONE)
@@ -39,14 +47,15 @@ pub fn check_files<F: Files, K: Sink + Drop>(
 fn report_files<F: Files, K: Sink + Drop>(
     alloc: Global,
     files: &F,
+    is_wide: bool,
     names: &[String],
     output: &mut Output<K>,
 ) -> Result<bool, Fault>
-    ensures { IfOk result (ReportsFiles (F.known files.now) (map string_bytes names.now) (told K.got output.old) (told K.got output.new)) }
+    ensures { IfOk result (ReportsFiles is_wide (F.known files.now) (map string_bytes names.now) (told K.got output.old) (told K.got output.new)) }
 {
     let mut found = false;
     for name in names {
-        let is_faulty = report_file(alloc, files, name.as_str(), output)?;
+        let is_faulty = report_file(alloc, files, is_wide, name.as_str(), output)?;
         found |= is_faulty;
     }
     Ok(found)
@@ -56,12 +65,13 @@ fn report_files<F: Files, K: Sink + Drop>(
 fn report_file<F: Files, K: Sink + Drop>(
     alloc: Global,
     files: &F,
+    is_wide: bool,
     name: &str,
     output: &mut Output<K>,
 ) -> Result<bool, Fault>
-    ensures { IfOk result (ReportsFile (F.known files.now name.now) name.now (told K.got output.old) (told K.got output.new)) }
+    ensures { IfOk result (ReportsFile is_wide (F.known files.now name.now) name.now (told K.got output.old) (told K.got output.new)) }
 {
-    match report_of_file(alloc, files, name)? {
+    match report_of_file(alloc, files, is_wide, name)? {
         Some(report) => {
             output.text(report.as_str())?;
             Ok(true)
@@ -71,38 +81,110 @@ fn report_file<F: Files, K: Sink + Drop>(
 }
 
 // What is wrong with a file, if anything is.
-fn report_of_file<F: Files>(alloc: Global, files: &F, name: &str) -> Result<Option<String>, Fault>
-    ensures { IfOk result (λ report. OfKnown (F.known files.now name.now) (λ text. TellsFile name.now text (option_map string_bytes report))) }
+fn report_of_file<F: Files>(
+    alloc: Global,
+    files: &F,
+    is_wide: bool,
+    name: &str,
+) -> Result<Option<String>, Fault>
+    ensures { IfOk result (λ report. OfKnown (F.known files.now name.now) (λ text. TellsFile is_wide name.now text (option_map string_bytes report))) }
 {
     match files.read(alloc, name) {
-        Ok(text) => report_of(alloc, name, text.as_slice(), false),
+        Ok(text) => report_of_text(alloc, is_wide, name, text),
         Err(Fault::TooLong) => Ok(Some(too_long_report(alloc, name)?)),
         Err(fault) => Err(fault),
     }
 }
 
-/// What is wrong with a text, if `dfc` refuses it, in the checked dialect or the plain one.
+// What is wrong with the text of a file, if anything is.
+fn report_of_text(
+    alloc: Global,
+    is_wide: bool,
+    name: &str,
+    text: Vec<u8>,
+) -> Result<Option<String>, Fault>
+    requires { length text.items ≤ 4194304 }
+    ensures { IfOk result (λ report. TellsText is_wide name.now text.items (option_map string_bytes report)) }
+{
+    if is_wide {
+        report_of_wide(alloc, name, text.as_slice())
+    } else {
+        report_of(alloc, name, &as_it_is(text), false)
+    }
+}
+
+// What is wrong with everyday Fortran, if anything is.
+fn report_of_wide(alloc: Global, name: &str, text: &[u8]) -> Result<Option<String>, Fault>
+    requires { length text.now ≤ 4194304 }
+    ensures { IfOk result (λ report. TellsLowering name.now text.now (option_map string_bytes report)) }
+{
+    match lower_text(alloc, name, text)? {
+        Lowering::Done(_) => Ok(None),
+        Lowering::Refused(report) => Ok(Some(report)),
+    }
+}
+
+/// What is wrong with a program, if `dfc` refuses it, in the checked dialect or the plain one.
 pub fn report_of(
     alloc: Global,
     name: &str,
-    text: &[u8],
+    given: &Given,
     is_checked: bool,
 ) -> Result<Option<String>, Fault>
-    requires { length text.now + 1 < 2 ^ 32 }
-    ensures { IfOk result (λ report. TellsReading name.now text.now (reading text.now is_checked) (option_map string_bytes report)) }
+    requires { IsWithin (given_meant given.now) }
+    ensures { IfOk result (λ report. TellsReading name.now (given_meant given.now) (reading (given_meant given.now).text is_checked) (option_map string_bytes report)) }
 {
-    match read_program(alloc, text, is_checked) {
+    match read_program(alloc, given.text(), is_checked) {
         Ok(_) => Ok(None),
-        Err(SourceEnd::Refused(refusal)) => Ok(Some(report(alloc, name, text, refusal)?)),
+        Err(SourceEnd::Refused(refusal)) => Ok(Some(report(alloc, name, given, refusal)?)),
         Err(SourceEnd::NoMemory) => Err(Fault::NoMemory),
     }
 }
 
 // The report of a refusal.
-fn report(alloc: Global, name: &str, text: &[u8], refusal: Refusal) -> Result<String, Fault>
-    requires { length text.now + 1 < 2 ^ 32 }
-    ensures { IfOk result (λ told. IsReportOf name.now text.now refusal (name_of (code_kind.Text refusal.code)) (string_bytes told)) }
+fn report(alloc: Global, name: &str, given: &Given, refusal: Refusal) -> Result<String, Fault>
+    requires { IsWithin (given_meant given.now) }
+    ensures { IfOk result (λ told. IsReportOf name.now (given_meant given.now).source (spec_placed (given_meant given.now).map refusal) (name_of (code_kind.Text refusal.code)) (string_bytes told)) }
 {
     let code = Code::Text(refusal.code).name();
-    Ok(refusal_report(alloc, name, text, refusal, code)?)
+    let at_source = placed(given.map(), refusal);
+    Ok(refusal_report(alloc, name, given.source(), at_source, code)?)
+}
+
+// A refusal at the line of the source.
+fn placed(source: SourceMap<'_>, refusal: Refusal) -> Refusal
+    ensures { result ≡ spec_placed (map_of source.entry) refusal }
+{
+    Refusal {
+        line: source.line(refusal.line),
+        code: refusal.code,
+    }
+}
+
+/// Tells a report of what is refused, and answers the status to end with.
+pub fn tell_refused<E: Sink + Drop>(report: &str, errors: &mut Output<E>) -> Result<u8, Fault>
+    ensures { IfOk result (λ status. Adds (told E.got errors.old) (told E.got errors.new) report.now × (status ≡ 2)) }
+{
+    errors.text(report)?;
+    Ok(REFUSED)
+}
+
+/// Tells why a program is refused, where that is the fault, and answers the status to end with.
+pub fn refused<E: Sink + Drop>(
+    alloc: Global,
+    program: Program<'_>,
+    given: &Given,
+    fault: Fault,
+    errors: &mut Output<E>,
+) -> Result<u8, Fault>
+    requires { IsWithin (given_meant given.now) }
+    ensures { IfOk result (RefusesProgram (program_meant program.entry) (given_meant given.now) (told E.got errors.old) (told E.got errors.new)) }
+{
+    if fault != Fault::Refused {
+        return Err(fault);
+    }
+    match report_of(alloc, program.name, given, is_checked(program.words))? {
+        Some(report) => tell_refused(report.as_str(), errors),
+        None => Err(Fault::Refused),
+    }
 }

@@ -7,6 +7,7 @@ ghost use Rattle.view_output.specs.Told.{Adds, told};
 
 use crate::DONE;
 use crate::files::Files;
+use crate::lowered::lower_file;
 use crate::programs::{run_file, show_file, show_names};
 use crate::refusals::check_files;
 use crate::view::show;
@@ -53,8 +54,9 @@ fn do_job<F: Files, S: Source, K: Sink + Drop, E: Sink + Drop>(
             None => show_source(alloc, task, source, output),
             Some(program) => show_file(alloc, files, task, program, output, errors),
         },
-        Job::Check(names) => check_files(alloc, files, names.names, output),
+        Job::Check(checked) => check_files(alloc, files, checked.is_wide, checked.names, output),
         Job::Names(program) => show_names(alloc, files, program, output, errors),
+        Job::Lower(program, form) => lower_file(alloc, files, form, program, output, errors),
         Job::Run(program) => run_file(alloc, files, program, output, errors),
     }
 }

@@ -1,17 +1,20 @@
 //! Reads a text and shows it.
 
 ghost use Rattle.std.specs.Prelude.{◌≡◌, IfOk, OnOk, option_map};
-ghost use Rattle.view_jobs.specs.Shown.{ShowsOf, ShowsSource, ShowsText, rounds_in as spec_rounds_in};
+ghost use Rattle.view_jobs.specs.Given.{given_meant};
+ghost use Rattle.view_jobs.specs.Shown.{IsSeen, IsTextOf, ShowsOf, ShowsSource, rounds_in as spec_rounds_in};
 ghost use Rattle.view_commands.specs.Words.{Dependences, DependencesJson, Independent, Json, task_meant};
 ghost use Rattle.view_output.specs.Told.{told};
 
-use crate::charts::{ShownRun, graphs_of, write_chart, write_page_of_one, write_rounds};
+use crate::charts::{graphs_of, write_chart, write_page, write_rounds};
+use crate::given::Given;
 use dependence_texts::{write_dependences, write_dependences_json, write_independence};
 use df_io::{Sink, Source, read_all};
 use graph_dependences::has_operations;
 use graph_json::write_printed;
 use graph_pictures::{write_flow, write_graph};
 use printed_graphs::{Printed, PrintedFlow, PrintedGraph, ReadFault, read_printed};
+use source_maps::tell_source;
 use std::alloc::Global;
 use trace_profiles::{lines_before_trace, rounds_of, write_profile};
 use view_commands::Task;
@@ -30,30 +33,39 @@ pub fn show<S: Source, K: Sink + Drop>(
     ensures { OnOk result (ShowsSource (task_meant task) (S.left source.old) (S.left source.new) (told K.got output.old) (told K.got output.new)) }
 {
     let text = read_all(alloc, source, LONGEST)?;
-    show_text(alloc, task, text.as_slice(), &[], output)
+    let printed = read_text(alloc, text.as_slice(), output)?;
+    show_printed(alloc, task, &printed, &[], output)
 }
 
-/// Shows what was printed of a program, whose own text may be empty.
-pub fn show_text<K: Sink + Drop>(
+/// What was printed of a program, with lines and names of the source.
+pub fn seen(alloc: Global, given: &Given, text: &[u8]) -> Result<Printed, Fault>
+    ensures { IfOk result (IsSeen (given_meant given.now).map text.now) }
+{
+    let mut printed = read_printed(alloc, text)?;
+    tell_source(alloc, given.map(), &mut printed)?;
+    Ok(printed)
+}
+
+// A text that a source had, read.
+fn read_text<K: Sink + Drop>(
     alloc: Global,
-    task: Task,
     text: &[u8],
-    source: &[u8],
     output: &mut Output<K>,
-) -> Result<(), Fault>
-    ensures { OnOk result (ShowsText (task_meant task) text.now (told K.got output.old) (told K.got output.new)) }
+) -> Result<Printed, Fault>
+    ensures text { IfOk result (IsTextOf text.now) }
+    ensures output { IfOk result (λ _. output.new ≡ output.old) }
 {
     if text.is_empty() {
         return Err(Fault::NoText);
     }
     match read_printed(alloc, text) {
-        Ok(printed) => show_printed(alloc, task, &printed, source, output),
+        Ok(printed) => Ok(printed),
         Err(fault) => Err(unread(text, fault, output)?),
     }
 }
 
-// Shows something of a program, whose own text may be empty.
-fn show_printed<K: Sink + Drop>(
+/// Shows something of a program, whose own text may be empty.
+pub fn show_printed<K: Sink + Drop>(
     alloc: Global,
     task: Task,
     printed: &Printed,
@@ -65,14 +77,7 @@ fn show_printed<K: Sink + Drop>(
     match task {
         Task::Chart => write_chart(alloc, printed, source, output),
         Task::Rounds => write_rounds(alloc, printed, source, output),
-        Task::Page => {
-            let run = ShownRun {
-                name: "The run",
-                printed,
-                output: &[],
-            };
-            write_page_of_one(alloc, run, source, output)
-        }
+        Task::Page => write_page(alloc, printed, source, output),
         Task::Regions => flow_picture(alloc, printed, true, output),
         Task::Dot(lines) => picture(alloc, printed, &lines, output),
         Task::Json => show_json(alloc, printed, output),
