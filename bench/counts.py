@@ -76,6 +76,9 @@ def kept(path):
 
 
 def main():
+    if {"-h", "--help"} & {*sys.argv[1:]}:
+        print(__doc__)
+        return 0
     if not sys.argv[1:] or sys.argv[1].startswith("-"):
         sys.exit(__doc__)
     whole = Counts()

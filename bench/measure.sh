@@ -6,6 +6,12 @@
 #
 # DFC is the program to be timed, crates/dfc/out/dfc of the gate without it. Run it at the top, after the gate, on an idle machine; it takes some minutes.
 # After tools/build, with build/dfc, it ends where the first program is missing that only the gate makes.
+case "${1:-}" in
+-h | --help)
+    sed -n '2,/^[^#]/s/^# \{0,1\}//p' "$0"
+    exit
+    ;;
+esac
 set -e
 cd "$(dirname "$0")/.."
 dfc=${1:-crates/dfc/out/dfc}

@@ -75,7 +75,10 @@ def best(dfc, words, text):
 
 
 def main():
-    if len(sys.argv) != 2 or sys.argv[1] in ("-h", "--help"):
+    if {"-h", "--help"} & {*sys.argv[1:]}:
+        print(__doc__)
+        return 0
+    if len(sys.argv) != 2:
         sys.exit(__doc__)
     dfc = shlex.split(sys.argv[1])
     for title, statements in [("nest", nest()), ("wide", wide()), ("web", web()), ("straight", straight())]:

@@ -62,7 +62,10 @@ def cost(command, text):
 
 
 def main():
-    if len(sys.argv) != 2 or sys.argv[1] in ("-h", "--help"):
+    if {"-h", "--help"} & {*sys.argv[1:]}:
+        print(__doc__)
+        return 0
+    if len(sys.argv) != 2:
         sys.exit(__doc__)
     dfc = shlex.split(sys.argv[1])
     jobs = [

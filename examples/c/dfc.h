@@ -10,7 +10,7 @@ extern "C" {
 #endif
 
 /*
- * Does what the program dfc does with these words, which stand between blanks ("fire data=3,4"), and with this text on standard
+ * Does what the program dfc does with these words, one blank between two of them ("fire data=3,4"), and with this text on standard
  * input. Answers the exit status of dfc: 0 done, 1 invalid words, 2 refused, 3 a trap, 4 the limit, 6 no memory for what is written, 7 no
  * memory, 8 a word that is no UTF-8. *written becomes the number of bytes that dfc writes, and the first `room` of these bytes are
  * put at `out`; where there are more, call again with more room. Nothing is kept between calls, and no memory is lost. Calls by several threads
