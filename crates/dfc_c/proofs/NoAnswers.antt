@@ -1,7 +1,7 @@
 -- What a call answers where there was no memory to begin with.
 use Rattle.std.proofs.Common.{ℕ, List, [], refl, arith}
 use Rattle.std.proofs.lemmas.Grind.{elements}
-use Rattle.dfc_jobs.specs.declared.status.Status.TheVariants.{NoMemory}
+use Rattle.job_terms.specs.declared.status.Status.TheVariants.{NoMemory}
 use Rattle.dfc_c.specs.Call.{IsAnswer}
 
 pub nothing_shown : (words text room : List ℕ) → IsAnswer words text room room 0 7

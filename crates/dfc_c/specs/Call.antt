@@ -1,6 +1,6 @@
 -- What a call from C answers.
 use Rattle.std.specs.Prelude.{◌≡◌, ◌++◌, ℕ, List, [], Some, length, take, drop}
-use Rattle.dfc_jobs.specs.Answers.{Answers}
+use Rattle.job_terms.specs.Answers.{Answers}
 use Rattle.dfc_driver.specs.WordsDue.{IsDue}
 use Rattle.dfc_c.specs.Words.{words_in}
 

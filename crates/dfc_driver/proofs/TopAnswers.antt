@@ -3,10 +3,10 @@ use Rattle.std.proofs.Common.{◌≡◌, ◌≢◌, ◌≤◌, ℕ, List, Option
 use Rattle.std.specs.Prelude.{IfSome}
 use Rattle.df_io.specs.Faults.{Rose}
 use Rattle.sample_texts.specs.SampleText.{sample_text}
-use Rattle.dfc_jobs.specs.declared.status.Status.{Status}
-use Rattle.dfc_jobs.specs.declared.status.Status.TheVariants.{Done, Usage, Refused, Trapped, Limit, ReadFault, WriteFault, NoMemory}
-use Rattle.dfc_jobs.specs.Answers.{Answers, AnswersAs, Blames, HasAll, code_of}
-use Rattle.dfc_jobs.specs.Due.{IsDueSampleText, sample_limit}
+use Rattle.job_terms.specs.declared.status.Status.{Status}
+use Rattle.job_terms.specs.declared.status.Status.TheVariants.{Done, Usage, Refused, Trapped, Limit, ReadFault, WriteFault, NoMemory}
+use Rattle.job_terms.specs.Answers.{Answers, AnswersAs, Blames, HasAll, code_of}
+use Rattle.sample_jobs.specs.DueSamples.{IsDueSampleText, sample_limit}
 use Rattle.job_laws.specs.Headline.{MeansSampleText}
 use Rattle.dfc_driver.specs.Words.{Job, Sample}
 use Rattle.dfc_driver.specs.WordsDue.{IsDueFor, MeansFor, TellsSample, TellsWords}

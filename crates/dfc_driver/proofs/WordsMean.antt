@@ -4,10 +4,10 @@ use Rattle.std.specs.Str.{bytes_eq}
 use Rattle.sample_texts.specs.SampleText.{sample_text}
 use Rattle.f77_tree.specs.WellFormed.{IsWellFormed}
 use Rattle.fixed_form.specs.Columns.{number}
-use Rattle.dfc_jobs.specs.declared.task.Told.{Told}
-use Rattle.dfc_jobs.specs.Due.{sample_limit}
-use Rattle.dfc_jobs.specs.Reading.{IfAccepted, IsOwnProgram, reading}
-use Rattle.dfc_jobs.specs.Tasks.{Task, Regions, Graph, Play, Forks, Regen, Run}
+use Rattle.job_terms.specs.declared.task.Told.{Told}
+use Rattle.sample_jobs.specs.DueSamples.{sample_limit}
+use Rattle.job_terms.specs.Reading.{IfAccepted, IsOwnProgram, reading}
+use Rattle.job_terms.specs.Tasks.{Task, Regions, Graph, Play, Forks, Regen, Run}
 use Rattle.job_laws.specs.Data.{HasWords}
 use Rattle.job_laws.specs.Headline.{MeansRead, MeansSampleText}
 use Rattle.dfc_driver.specs.declared.words.Setting.{Setting}

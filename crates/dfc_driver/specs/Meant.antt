@@ -1,7 +1,7 @@
 -- What a job that was read from words means. Its picks and its data are still texts.
 use Rattle.std.specs.Prelude.{◌≡◌, ℕ, true, List, [], ◌∷◌, Option, Some, None}
 use Rattle.fixed_form.specs.Columns.{number}
-use Rattle.dfc_jobs.specs.Tasks.{Asked, IsSampleNumber, Task, Regions, Graph, Play, Forks, Regen, Run}
+use Rattle.job_terms.specs.Tasks.{Asked, IsSampleNumber, Task, Regions, Graph, Play, Forks, Regen, Run}
 use Rattle.dfc_driver.specs.declared.words.GameWords.{GameWords}
 use Rattle.dfc_driver.specs.declared.words.Job as read
 use Rattle.dfc_driver.specs.declared.words.Job.TheVariants as read_job

@@ -2,9 +2,11 @@
 use Rattle.std.specs.Prelude.{◌≡◌, ◌≢◌, ◌⊎◌, ℕ, false, List, Option, Some, None}
 use Rattle.f77_tree.specs.WellFormed.{IsWellFormed}
 use Rattle.sample_texts.specs.SampleText.{sample_text}
-use Rattle.dfc_jobs.specs.Answers.{Answers, ReadsText}
-use Rattle.dfc_jobs.specs.Due.{Due, IsDueRead, IsDueSampleText, IsJust, sample_limit, usage}
-use Rattle.dfc_jobs.specs.Reading.{IfAccepted, IsOwnProgram, reading}
+use Rattle.job_terms.specs.Answers.{Answers, ReadsText}
+use Rattle.job_terms.specs.Due.{Due, IsJust, usage}
+use Rattle.dfc_jobs.specs.Due.{IsDueRead}
+use Rattle.sample_jobs.specs.DueSamples.{IsDueSampleText, sample_limit}
+use Rattle.job_terms.specs.Reading.{IfAccepted, IsOwnProgram, reading}
 use Rattle.job_laws.specs.Headline.{MeansRead, MeansSampleText}
 use Rattle.dfc_driver.specs.Words.{Job, On, Sample, job_of}
 

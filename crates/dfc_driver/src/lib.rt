@@ -6,5 +6,5 @@ mod numbers;
 mod top;
 mod words;
 
-pub use dfc_jobs::{Code, Status};
+pub use job_terms::{Code, Status};
 pub use top::{dfc_main, words_mean};

@@ -1,8 +1,8 @@
 ghost use Rattle.std.specs.Prelude.{◌≢◌, ◌≤◌, ℕ, List, map, IfSome};
 ghost use Rattle.std.specs.String.{string_bytes};
-ghost use Rattle.dfc_jobs.specs.Answers.{Answers, AnswersAs, Blames, HasAll, IsUnwritten, ReadsText, code_of};
+ghost use Rattle.job_terms.specs.Answers.{Answers, AnswersAs, Blames, HasAll, IsUnwritten, ReadsText, code_of};
 ghost use Rattle.dfc_jobs.specs.Due.{IsDueRead};
-ghost use Rattle.dfc_jobs.specs.Reading.{reading};
+ghost use Rattle.job_terms.specs.Reading.{reading};
 ghost use Rattle.job_laws.specs.Headline.{MeansRead};
 ghost use Rattle.dfc_driver.specs.Meant.{IsJob, IsTask, job_meant, task_meant};
 ghost use Rattle.dfc_driver.specs.Words.{job_of};
@@ -11,8 +11,10 @@ ghost use Rattle.dfc_driver.specs.WordsDue.{IsDue, IsDueFor, IsOwnFor, MeansFor,
 use crate::numbers::{data_in, picks_in};
 use crate::words::{Job, TaskWords, read_words};
 use df_io::{Sink, Source};
-use dfc_jobs::{Status, do_task, tell_sample, tell_usage};
+use dfc_jobs::do_task;
 use job_laws::{sample_texts_mean, texts_mean};
+use job_terms::{Status, tell_usage};
+use sample_jobs::tell_sample;
 use std::alloc::Global;
 
 /// Does what the words ask for, on the bytes of the source, and writes to the sink. It answers the exit status: 0 done,

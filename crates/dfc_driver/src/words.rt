@@ -3,11 +3,11 @@ ghost use Rattle.std.specs.List.{list_all};
 ghost use Rattle.std.specs.String.{string_bytes};
 ghost use Rattle.f77_tree.specs.Name.{is_figure};
 ghost use Rattle.fixed_form.specs.Columns.{number};
-ghost use Rattle.dfc_jobs.specs.Tasks.{IsSampleNumber, asked_in as given_asked, task_meant as given_meant};
+ghost use Rattle.job_terms.specs.Tasks.{IsSampleNumber, asked_in as given_asked, task_meant as given_meant};
 ghost use Rattle.dfc_driver.specs.Meant.{AreGameWords, IsJob, IsTask, asked_in, data_text, MayStand, meant, picks_text, task_meant};
 ghost use Rattle.dfc_driver.specs.Words.{job_of, told_by as spec_told_by, play_of, forks_of, asked_of, dialect_after, run_of, sample_of, is_sample, after, text_of, limit_in as spec_limit_in, dialect_of, are_digits_to as spec_are_digits_to, is_piece as spec_is_piece, is_setting, is_text as spec_is_text, is_word as spec_is_word, is_number_to as spec_is_number_to, name_of, pieces_after, values_in, word_value};
 
-use dfc_jobs::{Asked, Task, Told};
+use job_terms::{Asked, Task, Told};
 
 /// What the words after the program's name ask for.
 #[derive(Clone, Copy, Debug, PartialEq, Eq)]

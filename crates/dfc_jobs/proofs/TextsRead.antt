@@ -5,8 +5,8 @@ use Rattle.f77_tree.specs.declared.programs.Program.{Program}
 use Rattle.f77_tree.specs.Dialects.{IsOfDialect}
 use Rattle.f77_tree.specs.WellFormed.{IsWellFormed}
 use Rattle.f77_source.specs.Reading.{IsProgramOf}
-use Rattle.dfc_jobs.specs.declared.reading.Code.{Code}
-use Rattle.dfc_jobs.specs.Reading.{Reading, Accepted, IfAccepted, IsOf, IsOwnProgram, Refused, reading}
+use Rattle.job_terms.specs.declared.reading.Code.{Code}
+use Rattle.job_terms.specs.Reading.{Reading, Accepted, IfAccepted, IsOf, IsOwnProgram, Refused, reading}
 
 -- a text that is accepted
 pub own_program : (left : Option (List ℕ)) (checked : Bool) (p : Program) → IfSome left (λ bytes. reading checked bytes ≡ Accepted p) → IfSome left (λ bytes. IsProgramOf bytes checked p) → IsWellFormed p → IsOfDialect checked p → IfSome left (λ bytes. IsOwnProgram bytes checked)

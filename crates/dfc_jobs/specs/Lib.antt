@@ -1,14 +1,1 @@
-pub mod Tasks
-pub mod Codes
-pub mod Reading
-pub mod Playing
-pub mod Game
-pub mod PlayedNets
-pub mod Regions
-pub mod StoreText
-pub mod Drawn
-pub mod Found
 pub mod Due
-pub mod Stopping
-pub mod Samples
-pub mod Answers

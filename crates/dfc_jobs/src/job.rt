@@ -4,24 +4,18 @@ ghost use Rattle.std.specs.Prelude.{◌≡◌, ◌≢◌, ◌≤◌, IfSome};
 ghost use Rattle.df_io.specs.Faults.{Rose};
 ghost use Rattle.f77_tree.specs.WellFormed.{IsWellFormed};
 ghost use Rattle.alias_classes.specs.Number.{HasFewClasses};
-ghost use Rattle.dfc_jobs.specs.Answers.{AnswersAs, Blames, HasAll, IsUnwritten, ReadsText, code_of};
+ghost use Rattle.job_terms.specs.Answers.{AnswersAs, Blames, HasAll, IsUnwritten, ReadsText, code_of};
 ghost use Rattle.dfc_jobs.specs.Due.{IsDueOn, IsDueRead};
-ghost use Rattle.dfc_jobs.specs.Reading.{IsOwnProgram, reading};
-ghost use Rattle.dfc_jobs.specs.Tasks.{task_meant};
+ghost use Rattle.job_terms.specs.Reading.{IsOwnProgram, reading};
+ghost use Rattle.job_terms.specs.Tasks.{task_meant};
 ghost use Rattle.f77_tree.specs.Dialects.{IsOfDialect};
 
-use crate::forks::play_forks;
-use crate::graph::tell_graph;
-use crate::lines::tell_refusal;
-use crate::playing::play;
-use crate::reading::{NoProgram, read_program};
-use crate::regen::tell_regen;
-use crate::regions::tell_regions;
-use crate::run::tell_run;
-use crate::status::Status;
-use crate::task::Task;
 use df_io::{Sink, Source};
 use f77_tree::Program;
+use form_jobs::{tell_regen, tell_run};
+use game_jobs::{play, play_forks};
+use graph_jobs::{tell_graph, tell_regions};
+use job_terms::{NoProgram, Status, Task, read_program, tell_refusal};
 use std::alloc::Global;
 
 /// Does a task on the program of the text that the source has, read in the checked dialect, where a result that is no word traps, or in

@@ -5,10 +5,11 @@ use Rattle.std.specs.Prelude.{IfSome, IsOk}
 use Rattle.std.specs.Io.KnownBytes.{Appends, Keeps}
 use Rattle.df_io.specs.declared.std_source.StdSource.{StdSource}
 use Rattle.df_io.specs.Write.{AppendsPrefix, KeepsFirst}
-use Rattle.dfc_jobs.specs.declared.status.Status.{Status}
-use Rattle.dfc_jobs.specs.declared.status.Status.TheVariants.{Done, Usage, Refused, Trapped, Limit, ReadFault, WriteFault, NoMemory}
-use Rattle.dfc_jobs.specs.Answers.{Answers, AnswersAs, HasAll, IsBegun, IsTold, IsUnwritten, code_of}
-use Rattle.dfc_jobs.specs.Due.{Due, IsDueSampleText, IsJust, all_due, sample_limit, usage}
+use Rattle.job_terms.specs.declared.status.Status.{Status}
+use Rattle.job_terms.specs.declared.status.Status.TheVariants.{Done, Usage, Refused, Trapped, Limit, ReadFault, WriteFault, NoMemory}
+use Rattle.job_terms.specs.Answers.{Answers, AnswersAs, HasAll, IsBegun, IsTold, IsUnwritten, code_of}
+use Rattle.job_terms.specs.Due.{Due, IsJust, all_due, usage}
+use Rattle.sample_jobs.specs.DueSamples.{IsDueSampleText, sample_limit}
 use Rattle.sample_texts.specs.SampleText.{sample_text}
 use Rattle.dfc_driver.specs.Words.{Job, On, Sample, job_of}
 use Rattle.dfc_driver.specs.WordsDue.{IsDue, MeansFor, ReadsFor, TellsWords}

@@ -2,7 +2,7 @@
 use Rattle.std.specs.Prelude.{◌≡◌, ◌⊎◌, ◌≤◌, ℕ, List, Option, IfSome}
 use Rattle.std.specs.Io.KnownBytes.{Keeps}
 use Rattle.df_io.specs.Write.{KeepsFirst}
-use Rattle.dfc_jobs.specs.Answers.{Answers, IsUnwritten}
+use Rattle.job_terms.specs.Answers.{Answers, IsUnwritten}
 use Rattle.dfc_driver.specs.Words.{job_of}
 use Rattle.dfc_driver.specs.WordsDue.{IsDue, TellsWords}
 

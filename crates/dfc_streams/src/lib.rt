@@ -4,7 +4,7 @@
 ghost use Rattle.std.specs.Prelude.{◌≤◌, IfSome, IsOk, map};
 ghost use Rattle.std.specs.Io.Buffered.{writer_contents};
 ghost use Rattle.std.specs.String.{string_bytes};
-ghost use Rattle.dfc_jobs.specs.Answers.{HasAll};
+ghost use Rattle.job_terms.specs.Answers.{HasAll};
 ghost use Rattle.dfc_driver.specs.Words.{job_of};
 ghost use Rattle.dfc_driver.specs.WordsDue.{MeansFor, ReadsFor};
 ghost use Rattle.dfc_streams.specs.Streams.{IsOutput, IsStatusAfter};

@@ -1,12 +1,13 @@
 -- What a job answers, by what is due and what this means, is what its sentence says.
 use Rattle.std.proofs.Common.{ℕ, Bool, List, Option, Some, None}
 use Rattle.std.specs.Prelude.{IfSome}
-use Rattle.dfc_jobs.specs.declared.status.Status.{Status}
-use Rattle.dfc_jobs.specs.declared.status.Status.TheVariants.{Done, Usage, Refused as Refused_status, Trapped, Limit, ReadFault, WriteFault, NoMemory}
-use Rattle.dfc_jobs.specs.Answers.{AnswersAs, HasAll, IsTold, code_of}
-use Rattle.dfc_jobs.specs.Due.{Due, IsDueRead}
-use Rattle.dfc_jobs.specs.Reading.{Reading, Accepted, IsOwnProgram, Refused, reading}
-use Rattle.dfc_jobs.specs.Tasks.{Task}
+use Rattle.job_terms.specs.declared.status.Status.{Status}
+use Rattle.job_terms.specs.declared.status.Status.TheVariants.{Done, Usage, Refused as Refused_status, Trapped, Limit, ReadFault, WriteFault, NoMemory}
+use Rattle.job_terms.specs.Answers.{AnswersAs, HasAll, IsTold, code_of}
+use Rattle.job_terms.specs.Due.{Due}
+use Rattle.dfc_jobs.specs.Due.{IsDueRead}
+use Rattle.job_terms.specs.Reading.{Reading, Accepted, IsOwnProgram, Refused, reading}
+use Rattle.job_terms.specs.Tasks.{Task}
 use Rattle.job_laws.specs.Data.{HasWords}
 use Rattle.job_laws.specs.Headline.{MeansRead}
 use Rattle.headline.specs.Sentences.{Does, Says, SaysRead}

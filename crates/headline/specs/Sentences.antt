@@ -1,11 +1,12 @@
 -- What each job does with a text, said in one place: exactly what is due, and what this means for the runs of the text.
 use Rattle.std.specs.Prelude.{◌≡◌, ℕ, Bool, List, Option, IfSome}
 use Rattle.f77_tree.specs.declared.programs.Program.{Program}
-use Rattle.dfc_jobs.specs.declared.status.Status.{Status}
-use Rattle.dfc_jobs.specs.Answers.{AnswersAs}
-use Rattle.dfc_jobs.specs.Due.{Due, IsDueOn, refusal}
-use Rattle.dfc_jobs.specs.Reading.{Reading, Accepted, Refused, reading}
-use Rattle.dfc_jobs.specs.Tasks.{Task}
+use Rattle.job_terms.specs.declared.status.Status.{Status}
+use Rattle.job_terms.specs.Answers.{AnswersAs}
+use Rattle.job_terms.specs.Due.{Due, refusal}
+use Rattle.dfc_jobs.specs.Due.{IsDueOn}
+use Rattle.job_terms.specs.Reading.{Reading, Accepted, Refused, reading}
+use Rattle.job_terms.specs.Tasks.{Task}
 use Rattle.job_laws.specs.Headline.{Means}
 use Rattle.job_laws.specs.SourceRuns.{AreRunsOf, RunsAs, SourceRuns}
 

@@ -10,14 +10,15 @@
 #![tactic(auto)]
 
 ghost use Rattle.std.specs.Prelude.{◌≢◌};
-ghost use Rattle.dfc_jobs.specs.Answers.{Blames, IsUnwritten, ReadsText, code_of};
-ghost use Rattle.dfc_jobs.specs.Tasks.{Forks, Graph, Play, Regen, Regions, Run, asked_in};
+ghost use Rattle.job_terms.specs.Answers.{Blames, IsUnwritten, ReadsText, code_of};
+ghost use Rattle.job_terms.specs.Tasks.{Forks, Graph, Play, Regen, Regions, Run, asked_in};
 ghost use Rattle.headline.specs.Sentences.{Does};
 
 use df_io::{Sink, Source};
-use dfc_jobs::{Task, do_task};
-pub use dfc_jobs::{Asked, Status, Told};
+use dfc_jobs::do_task;
 use job_laws::texts_mean;
+use job_terms::Task;
+pub use job_terms::{Asked, Status, Told};
 use net_tables::words_are_words;
 use std::alloc::Global;
 

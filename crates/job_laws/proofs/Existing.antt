@@ -4,11 +4,12 @@ use Rattle.f77_tree.specs.declared.programs.Program.{Program}
 use Rattle.firing.specs.declared.playing.PlayEnd.{PlayEnd}
 use Rattle.firing.specs.declared.playing.PlayEnd.TheVariants.{Rest, Trapped, Limit, WriteFault}
 use Rattle.firing.specs.Runs.{HasEnd, IsOwnEnd}
-use Rattle.dfc_jobs.specs.declared.task.Told.{Told}
-use Rattle.dfc_jobs.specs.Due.{IsDueBy, IsDuePlay, done, stopped, told_text, trapped}
-use Rattle.dfc_jobs.specs.Game.{GameKind, IsGameOn, Place}
-use Rattle.dfc_jobs.specs.Playing.{Game, opening, way_of}
-use Rattle.dfc_jobs.specs.Tasks.{Asked}
+use Rattle.job_terms.specs.declared.task.Told.{Told}
+use Rattle.game_jobs.specs.DueGames.{IsDueBy, IsDuePlay, told_text}
+use Rattle.job_terms.specs.Due.{done, stopped, trapped}
+use Rattle.program_nets.specs.Game.{GameKind, IsGameOn, Place}
+use Rattle.program_nets.specs.Playing.{Game, opening, way_of}
+use Rattle.job_terms.specs.Tasks.{Asked}
 use Rattle.job_laws.specs.Existence.{GamesEnd, HasDue}
 
 by_end : (end : PlayEnd) → IsOwnEnd end → (limit : ℕ) (text : List ℕ) → HasDue (IsDueBy end limit text)

@@ -18,7 +18,7 @@ use Rattle.op_board.specs.SoundOperationNets.{IsOperationNet}
 use Rattle.fork_board.specs.ForkSimulation.{AreForksDue, ForksSimulate, OrdersAreForked}
 use Rattle.fork_board.specs.ForkTokens.{ForkTokens, first_fork_tokens, fork_course, fork_moves}
 use Rattle.fork_board.specs.SoundForks.{ForksCanCome}
-use Rattle.dfc_jobs.specs.Game.{fork_game, fork_game_of}
+use Rattle.program_nets.specs.Game.{fork_game, fork_game_of}
 use Rattle.job_laws.proofs.NetGames.{KindLaws, in_lockstep}
 
 -- What is told of nets beside their programs. The source's own order is that of a net whose operations fire in turn.

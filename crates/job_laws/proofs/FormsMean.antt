@@ -17,12 +17,13 @@ use Rattle.regenerate.specs.declared.ends.RewriteEnd.TheVariants as rewrite_end
 use Rattle.rewriting.specs.Rewritten.{IsRewritten, IsRewrittenText, PassesLimit}
 use Rattle.read_back.specs.PrintedArrays.{HasNoPrintedArrays}
 use Rattle.read_back.specs.ReadAgain.{IsReadBack}
-use Rattle.dfc_jobs.specs.declared.status.Status.{Status}
-use Rattle.dfc_jobs.specs.declared.status.Status.TheVariants as status
-use Rattle.dfc_jobs.specs.Due.{Due, IsDueByEnd, IsDueLimit, IsDueRegen, IsDueRun, IsDueRunOf, IsOutputDue, IsPrinted, IsTextDue, MakesSteps, due_by_mark, done, trapped_alone}
+use Rattle.job_terms.specs.declared.status.Status.{Status}
+use Rattle.job_terms.specs.declared.status.Status.TheVariants as status
+use Rattle.job_terms.specs.Due.{Due, done, trapped_alone}
+use Rattle.form_jobs.specs.DueForms.{IsDueByEnd, IsDueLimit, IsDueRegen, IsDueRun, IsDueRunOf, IsOutputDue, IsPrinted, IsTextDue, MakesSteps, due_by_mark}
 use Rattle.job_laws.specs.Headline.{MeansEnd, MeansOn, MeansRegen, MeansRun, MeansStop, MeansText, run_bound}
 use Rattle.job_laws.specs.SourceRuns.{Writes, run_of}
-use Rattle.dfc_jobs.specs.Tasks.{Regen, Run}
+use Rattle.job_terms.specs.Tasks.{Regen, Run}
 use Rattle.job_laws.proofs.SameOutputs.{RunsStay, print_the_same, same_end}
 use Rattle.job_laws.proofs.Soon.{keeps_up_itself, means_run}
 

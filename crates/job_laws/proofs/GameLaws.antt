@@ -11,13 +11,14 @@ use Rattle.firing.specs.declared.playing.Show.TheVariants.{Output}
 use Rattle.firing.specs.Orders.{IsOver, after}
 use Rattle.firing.specs.Play.{shown}
 use Rattle.firing.specs.Runs.{IsRun}
-use Rattle.dfc_jobs.specs.declared.task.Told.{Told}
-use Rattle.dfc_jobs.specs.Due.{Due, IsDueBy, IsDuePlay, IsToldBy, told_by_forks, told_text}
-use Rattle.dfc_jobs.specs.Game.{GameKind, Place, fork_game, operation_game}
+use Rattle.job_terms.specs.declared.task.Told.{Told}
+use Rattle.job_terms.specs.Due.{Due}
+use Rattle.game_jobs.specs.DueGames.{IsDueBy, IsDuePlay, IsToldBy, told_by_forks, told_text}
+use Rattle.program_nets.specs.Game.{GameKind, Place, fork_game, operation_game}
 use Rattle.job_laws.specs.Headline.{MeansOn, MeansPlay, bound_of}
 use Rattle.job_laws.specs.SourceRuns.{run_of}
-use Rattle.dfc_jobs.specs.Playing.{Game, opening, way_of}
-use Rattle.dfc_jobs.specs.Tasks.{Asked, Forks, Play}
+use Rattle.program_nets.specs.Playing.{Game, opening, way_of}
+use Rattle.job_terms.specs.Tasks.{Asked, Forks, Play}
 use Rattle.job_laws.specs.GameLaws.{GameLaws}
 use Rattle.job_laws.proofs.GameMeans.{done_by, fails_by, prefix_of_run, rests, shows, traps}
 use Rattle.job_laws.proofs.Progress.{all_shown}

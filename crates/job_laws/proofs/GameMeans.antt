@@ -14,19 +14,20 @@ use Rattle.firing.specs.Orders.{IsOver, IsPrefix, after, written}
 use Rattle.firing.specs.Pacing.{EndsWith, Going, Done, Failed, Stage, StandsAt, TrapsWith, WritesPrefix}
 use Rattle.firing.specs.Play.{Way, node_at, played, shown}
 use Rattle.firing.specs.Runs.{HasOrder, IsRun}
-use Rattle.dfc_jobs.specs.declared.status.Status.{Status}
-use Rattle.dfc_jobs.specs.declared.status.Status.TheVariants as status
-use Rattle.dfc_jobs.specs.declared.task.Told.{Told}
-use Rattle.dfc_jobs.specs.declared.task.Told.TheVariants.{Output, Nodes, Store}
-use Rattle.dfc_jobs.specs.Due.{Due, IsDueBy, IsPlayed, lines_in, told_text, trapped}
-use Rattle.dfc_jobs.specs.Game.{GameKind, Place}
+use Rattle.job_terms.specs.declared.status.Status.{Status}
+use Rattle.job_terms.specs.declared.status.Status.TheVariants as status
+use Rattle.job_terms.specs.declared.task.Told.{Told}
+use Rattle.job_terms.specs.declared.task.Told.TheVariants.{Output, Nodes, Store}
+use Rattle.job_terms.specs.Due.{Due, lines_in, trapped}
+use Rattle.game_jobs.specs.DueGames.{IsDueBy, IsPlayed, told_text}
+use Rattle.program_nets.specs.Game.{GameKind, Place}
 use Rattle.job_laws.specs.GameLaws.{StopFirst}
 use Rattle.job_laws.specs.Headline.{MeansRest, MeansTrap, TellsAtLeast, TellsEnd, TellsPrefix, TellsTrap, bound_of}
-use Rattle.dfc_jobs.specs.Playing.{Game, StaysInLockstep, opening, stage, stage_of, way_of}
+use Rattle.program_nets.specs.Playing.{Game, StaysInLockstep, opening, stage, stage_of, way_of}
 use Rattle.job_laws.specs.SourceRuns.{Writes, run_of}
-use Rattle.dfc_jobs.specs.StoreText.{fired_line, store_text}
-use Rattle.dfc_jobs.specs.Tasks.{Asked}
-use Rattle.dfc_jobs.proofs.NameLines.{name_lines}
+use Rattle.game_jobs.specs.StoreText.{fired_line, store_text}
+use Rattle.job_terms.specs.Tasks.{Asked}
+use Rattle.game_jobs.proofs.NameLines.{name_lines}
 
 -- ---- where the program is
 

@@ -6,14 +6,16 @@ use Rattle.alias_classes.specs.Classes.{ClassTable}
 use Rattle.cfg_build.specs.Flow.{flow}
 use Rattle.net_board.specs.Nodes.{NetOf}
 use Rattle.op_board.specs.OperationNets.{OperationNet}
-use Rattle.dfc_jobs.specs.Tasks.{Graph}
-use Rattle.dfc_jobs.specs.Due.{Due, IsDueOn, done, TellsGraph}
-use Rattle.dfc_jobs.specs.Game.{IsNetOn}
+use Rattle.job_terms.specs.Tasks.{Graph}
+use Rattle.job_terms.specs.Due.{Due, done}
+use Rattle.dfc_jobs.specs.Due.{IsDueOn}
+use Rattle.graph_jobs.specs.DueGraphs.{TellsGraph}
+use Rattle.program_nets.specs.Game.{IsNetOn}
 use Rattle.graph_texts.specs.GraphText.{graph_text}
 use Rattle.job_laws.specs.Headline.{MeansGraph, MeansOn}
 use Rattle.job_laws.specs.SourceRuns.{run_of}
 use Rattle.job_laws.proofs.OneNet.{OneOfEach, one_net}
-use Rattle.dfc_jobs.proofs.GraphMade.{made, over_none, same_text}
+use Rattle.graph_jobs.proofs.GraphMade.{made, over_none, same_text}
 
 module _ (each : OneOfEach) (p : Program) (strong : IsFlowGraph (flow p.execs).graph) where
   -- the text tells the net over whatever data

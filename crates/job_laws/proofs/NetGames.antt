@@ -17,10 +17,10 @@ use Rattle.net_board.specs.ProgramStages as net_steps
 use Rattle.net_board.specs.ProgramStages.{program_stage, program_text}
 use Rattle.op_board.specs.OperationNets.{OperationNet}
 use Rattle.op_board.specs.SoundOperationNets.{IsOperationNet}
-use Rattle.dfc_jobs.specs.Game.{GameKind, IsGameOn, Place, firing_bound}
+use Rattle.program_nets.specs.Game.{GameKind, IsGameOn, Place, firing_bound}
 use Rattle.job_laws.specs.GameLaws.{DueEnds, GameLaws, RunLaws, StopFirst}
 use Rattle.job_laws.specs.Headline.{bound_of, line_count}
-use Rattle.dfc_jobs.specs.Playing.{Game, StaysInLockstep, stage, stage_of}
+use Rattle.program_nets.specs.Playing.{Game, StaysInLockstep, stage, stage_of}
 use Rattle.job_laws.proofs.OneNet.{OneOfEach, one_net}
 
 -- ---- the stages of a net's program

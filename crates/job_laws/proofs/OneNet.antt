@@ -15,7 +15,7 @@ use Rattle.net_board.specs.NetParts.{AreParts, net_with}
 use Rattle.op_board.specs.Needs.{OperationNeeds}
 use Rattle.op_board.specs.OperationNets.{OperationNet, operation_at, operation_count}
 use Rattle.op_board.specs.SoundOperationNets.{AreNeeds}
-use Rattle.dfc_jobs.specs.Game.{AreToldByRanges, IsNetOn}
+use Rattle.program_nets.specs.Game.{AreToldByRanges, IsNetOn}
 
 -- a program has one table of classes and of touches, and touches have one table of wires
 pub record OneOfEach : Type 0 where

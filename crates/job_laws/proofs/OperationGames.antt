@@ -17,7 +17,7 @@ use Rattle.op_board.specs.OperationOrder.{own_operations}
 use Rattle.op_board.specs.OperationSimulation.{AreDueInTurn, AreFewOperations, HasProgramMemory, OperationsSimulate}
 use Rattle.op_board.specs.OperationTokens.{OperationTokens, first_operation_tokens, operation_moves}
 use Rattle.op_board.specs.SoundOperationNets.{IsOperationNet, OperationsCanCome}
-use Rattle.dfc_jobs.specs.Game.{game_of, operation_game}
+use Rattle.program_nets.specs.Game.{game_of, operation_game}
 use Rattle.job_laws.proofs.NetGames.{KindLaws, in_lockstep}
 
 -- what is told of nets beside their programs

@@ -3,14 +3,15 @@ use Rattle.std.proofs.Common.{◌≡◌, ℕ, ℤ, Bool, List, ◌++◌, ap, ◌
 use Rattle.op_table.specs.declared.Trap.{Trap}
 use Rattle.f77_tree.specs.declared.programs.Program.{Program}
 use Rattle.f77_tree.specs.Run.{out}
-use Rattle.dfc_jobs.specs.declared.task.Told.{Told}
-use Rattle.dfc_jobs.specs.declared.task.Told.TheVariants.{Output, Nodes, Store}
-use Rattle.dfc_jobs.specs.Due.{Due, told_by_forks}
-use Rattle.dfc_jobs.specs.Game.{GameKind, fork_game, operation_game}
+use Rattle.job_terms.specs.declared.task.Told.{Told}
+use Rattle.job_terms.specs.declared.task.Told.TheVariants.{Output, Nodes, Store}
+use Rattle.job_terms.specs.Due.{Due}
+use Rattle.game_jobs.specs.DueGames.{told_by_forks}
+use Rattle.program_nets.specs.Game.{GameKind, fork_game, operation_game}
 use Rattle.job_laws.specs.Headline.{Means, MeansAccepted, MeansEnd, MeansOn, MeansPlay, MeansRest, MeansRun, MeansStop, MeansText, MeansTrap, TellsPrefix}
 use Rattle.job_laws.specs.GameLaws.{StopFirst}
 use Rattle.job_laws.specs.SourceRuns.{AreAlike, KeepsUp, PrintTheSame, RunsAs, SourceRun, SourceRuns, StopsByTrap, Writes, run_of}
-use Rattle.dfc_jobs.specs.Tasks.{Asked, Task, Regions, Graph, Play, Forks, Regen, Run}
+use Rattle.job_terms.specs.Tasks.{Asked, Task, Regions, Graph, Play, Forks, Regen, Run}
 use Rattle.job_laws.proofs.Soon.{means_play, means_run}
 
 -- what a text that is written begins with is written

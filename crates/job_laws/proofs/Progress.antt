@@ -14,7 +14,7 @@ use Rattle.firing.specs.Play.{Moment, Way, by_order, moment, next, node_at, node
 use Rattle.firing.specs.Runs.{IsRun}
 use Rattle.firing.specs.SourceOrder.{IsDueOrder}
 use Rattle.firing.proofs.ControlLemmas.{moves_on}
-use Rattle.dfc_jobs.specs.Playing.{Game, opening}
+use Rattle.program_nets.specs.Playing.{Game, opening}
 
 -- what is shown grows
 shown_longer : {M P : Type 0} (w : Way M P) (start : Moment M P) (n d : ℕ) → IsPrefix (shown w Output start n) (shown w Output start (d + n))

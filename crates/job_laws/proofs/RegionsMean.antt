@@ -6,11 +6,12 @@ use Rattle.closed_walks.specs.Region.{IsFlowGraph}
 use Rattle.cfg_build.specs.Flow.{flow}
 use Rattle.f77_tree.specs.declared.programs.Program.{Program}
 use Rattle.region_tree.specs.Tree.{Tree, IsRegionTree}
-use Rattle.dfc_jobs.specs.Tasks.{Regions}
-use Rattle.dfc_jobs.specs.Due.{Due, IsDueOn, done}
+use Rattle.job_terms.specs.Tasks.{Regions}
+use Rattle.job_terms.specs.Due.{Due, done}
+use Rattle.dfc_jobs.specs.Due.{IsDueOn}
 use Rattle.job_laws.specs.Headline.{Means, MeansOn}
 use Rattle.job_laws.specs.SourceRuns.{run_of}
-use Rattle.dfc_jobs.specs.Regions.{regions_text, TellsRegions}
+use Rattle.graph_jobs.specs.Regions.{regions_text, TellsRegions}
 
 -- there is one numbering of the classes of a graph, and one tree of its regions
 abbrev pub OneNumbering : Type 0

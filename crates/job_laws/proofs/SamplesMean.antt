@@ -5,14 +5,17 @@ use Rattle.f77_tree.specs.Run as runs
 use Rattle.f77_tree.specs.Run.{EndsIn, Mark, out}
 use Rattle.firing.specs.declared.playing.PlayEnd.{PlayEnd}
 use Rattle.firing.specs.declared.playing.PlayEnd.TheVariants.{Rest, Trapped, Limit, WriteFault}
-use Rattle.dfc_jobs.specs.declared.status.Status.{Status}
-use Rattle.dfc_jobs.specs.declared.status.Status.TheVariants as status
-use Rattle.dfc_jobs.specs.declared.task.Told.TheVariants.{Output}
-use Rattle.dfc_jobs.specs.Due.{Due, IsDueBy, IsDueLimit, IsDueSample, IsSampleDue, TellsSizes, after_text, all_due, done, due_by_mark, first_line, followed, followed_by, sample_line, up_to}
-use Rattle.dfc_jobs.specs.Game.{operation_game}
+use Rattle.job_terms.specs.declared.status.Status.{Status}
+use Rattle.job_terms.specs.declared.status.Status.TheVariants as status
+use Rattle.job_terms.specs.declared.task.Told.TheVariants.{Output}
+use Rattle.job_terms.specs.Due.{Due, all_due, done}
+use Rattle.game_jobs.specs.DueGames.{IsDueBy}
+use Rattle.form_jobs.specs.DueForms.{IsDueLimit, due_by_mark}
+use Rattle.sample_jobs.specs.DueSamples.{IsDueSample, IsSampleDue, TellsSizes, after_text, first_line, followed, followed_by, sample_line, up_to}
+use Rattle.program_nets.specs.Game.{operation_game}
 use Rattle.job_laws.specs.Headline.{MeansEnd, MeansOn, MeansRest, MeansSample, MeansTwice, bound_of, run_bound}
 use Rattle.job_laws.specs.SourceRuns.{run_of}
-use Rattle.dfc_jobs.specs.Tasks.{Regions, Graph, Play, Run}
+use Rattle.job_terms.specs.Tasks.{Regions, Graph, Play, Run}
 use Rattle.job_laws.proofs.FormsMean.{refused}
 
 -- ---- parts, one after another

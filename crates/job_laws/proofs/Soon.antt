@@ -8,11 +8,11 @@ use Rattle.f77_tree.specs.Prefixes.{IsPrefix}
 use Rattle.f77_tree.specs.Run as runs
 use Rattle.f77_tree.specs.Run.{EndsIn, Mark, Running, TrapsAt, out}
 use Rattle.f77_tree.specs.Steps.{StopsWithin}
-use Rattle.dfc_jobs.specs.declared.status.Status.TheVariants.{Done, Refused as Refused_status, Trapped}
-use Rattle.dfc_jobs.specs.declared.task.Told.{Told}
-use Rattle.dfc_jobs.specs.Due.{Due}
-use Rattle.dfc_jobs.specs.Game.{GameKind}
-use Rattle.dfc_jobs.specs.Tasks.{Asked}
+use Rattle.job_terms.specs.declared.status.Status.TheVariants.{Done, Refused as Refused_status, Trapped}
+use Rattle.job_terms.specs.declared.task.Told.{Told}
+use Rattle.job_terms.specs.Due.{Due}
+use Rattle.program_nets.specs.Game.{GameKind}
+use Rattle.job_terms.specs.Tasks.{Asked}
 use Rattle.job_laws.specs.GameLaws.{StopFirst}
 use Rattle.job_laws.specs.Headline.{MeansEnd, MeansPlay, MeansRest, MeansRun, MeansStop, MeansTrap, TellsAtLeast, TellsPrefix, bound_of, line_count, run_bound}
 use Rattle.job_laws.specs.SourceRuns.{KeepsUp, SourceRun, Writes, run_of}

@@ -3,8 +3,8 @@ use Rattle.std.proofs.Common.{ℕ, Bool, List}
 use Rattle.f77_tree.specs.declared.programs.Program.{Program}
 use Rattle.f77_tree.specs.WellFormed.{IsWellFormed}
 use Rattle.f77_source.specs.Reading.{IsProgramOf}
-use Rattle.dfc_jobs.specs.Reading.{Reading, Accepted, IfAccepted, IsOf, Refused}
-use Rattle.dfc_jobs.specs.Tasks.{Task}
+use Rattle.job_terms.specs.Reading.{Reading, Accepted, IfAccepted, IsOf, Refused}
+use Rattle.job_terms.specs.Tasks.{Task}
 use Rattle.job_laws.specs.GameLaws.{StopFirst}
 use Rattle.job_laws.specs.Headline.{MeansOn, MeansRead, MeansSample, MeansSampleRead}
 use Rattle.job_laws.specs.SourceRuns.{RunsAs, run_of}

@@ -3,9 +3,9 @@ use Rattle.std.specs.Prelude.{ℕ, List}
 use Rattle.firing.specs.Runs.{HasEnd}
 use Rattle.op_board.specs.OperationNets.{OperationNet}
 use Rattle.op_board.specs.SoundOperationNets.{IsOperationNet}
-use Rattle.dfc_jobs.specs.Due.{Due}
-use Rattle.dfc_jobs.specs.Game.{GameKind}
-use Rattle.dfc_jobs.specs.Playing.{opening, way_of}
+use Rattle.job_terms.specs.Due.{Due}
+use Rattle.program_nets.specs.Game.{GameKind}
+use Rattle.program_nets.specs.Playing.{opening, way_of}
 
 -- something is due
 pub record HasDue (is_due : Due → Type 0) : Type 0 where

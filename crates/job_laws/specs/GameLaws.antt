@@ -12,12 +12,12 @@ use Rattle.firing.specs.Orders.{IsOver, after}
 use Rattle.firing.specs.Play.{Moment, Way, by_order}
 use Rattle.firing.specs.Runs.{HasOrder, IsRun}
 use Rattle.firing.specs.SourceOrder.{IsDueOrder}
-use Rattle.dfc_jobs.specs.Game.{GameKind, IsGameOn, Place}
+use Rattle.program_nets.specs.Game.{GameKind, IsGameOn, Place}
 use Rattle.job_laws.specs.Headline.{bound_of}
-use Rattle.dfc_jobs.specs.Playing.{Game, StaysInLockstep, opening}
-use Rattle.dfc_jobs.specs.declared.task.Told.{Told}
-use Rattle.dfc_jobs.specs.Tasks.{Asked}
-use Rattle.dfc_jobs.specs.Due.{IsDuePlay}
+use Rattle.program_nets.specs.Playing.{Game, StaysInLockstep, opening}
+use Rattle.job_terms.specs.declared.task.Told.{Told}
+use Rattle.job_terms.specs.Tasks.{Asked}
+use Rattle.game_jobs.specs.DueGames.{IsDuePlay}
 use Rattle.job_laws.specs.Existence.{HasDue}
 
 -- from where the run of a program has stopped, it stopped first at some step

@@ -20,17 +20,21 @@ use Rattle.flat_programs.specs.Text.{text as text_of}
 use Rattle.op_board.specs.OperationNets.{OperationNet}
 use Rattle.read_back.specs.PrintedArrays.{HasNoPrintedArrays}
 use Rattle.read_back.specs.ReadAgain.{IsReadBack}
-use Rattle.dfc_jobs.specs.declared.status.Status.TheVariants.{Done, Refused as Refused_status, Trapped}
-use Rattle.dfc_jobs.specs.declared.task.Told.{Told}
-use Rattle.dfc_jobs.specs.declared.task.Told.TheVariants.{Output, Nodes, Store}
-use Rattle.dfc_jobs.specs.Due.{Due, IsDueOn, IsDueSample, IsPlayed, TellsSizes, lines_in, told_by_forks, trapped, trapped_alone, up_to, TellsGraph}
-use Rattle.dfc_jobs.specs.Game.{GameKind, IsNetOn, fork_game, operation_game}
+use Rattle.job_terms.specs.declared.status.Status.TheVariants.{Done, Refused as Refused_status, Trapped}
+use Rattle.job_terms.specs.declared.task.Told.{Told}
+use Rattle.job_terms.specs.declared.task.Told.TheVariants.{Output, Nodes, Store}
+use Rattle.job_terms.specs.Due.{Due, lines_in, trapped, trapped_alone}
+use Rattle.dfc_jobs.specs.Due.{IsDueOn}
+use Rattle.sample_jobs.specs.DueSamples.{IsDueSample, TellsSizes, up_to}
+use Rattle.game_jobs.specs.DueGames.{IsPlayed, told_by_forks}
+use Rattle.graph_jobs.specs.DueGraphs.{TellsGraph}
+use Rattle.program_nets.specs.Game.{GameKind, IsNetOn, fork_game, operation_game}
 use Rattle.graph_texts.specs.GraphText.{graph_text}
-use Rattle.dfc_jobs.specs.Reading.{Reading, Accepted, Refused, reading}
-use Rattle.dfc_jobs.specs.Regions.{regions_text}
+use Rattle.job_terms.specs.Reading.{Reading, Accepted, Refused, reading}
+use Rattle.graph_jobs.specs.Regions.{regions_text}
 use Rattle.job_laws.specs.SourceRuns.{AreRunsOf, PrintTheSame, RunsAs, SourceRun, SourceRuns, Stops, Writes, run_of}
-use Rattle.dfc_jobs.specs.StoreText.{fired_line, store_text}
-use Rattle.dfc_jobs.specs.Tasks.{Asked, Task, Regions, Graph, Play, Forks, Regen, Run}
+use Rattle.game_jobs.specs.StoreText.{fired_line, store_text}
+use Rattle.job_terms.specs.Tasks.{Asked, Task, Regions, Graph, Play, Forks, Regen, Run}
 
 -- ---- games
 

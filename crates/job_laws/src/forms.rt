@@ -5,7 +5,7 @@ ghost use Rattle.op_table.specs.Words.{IsWord};
 ghost use Rattle.f77_tree.specs.declared.programs.Program.{Program};
 ghost use Rattle.f77_tree.specs.Dialects.{IsOfDialect};
 ghost use Rattle.f77_tree.specs.WellFormed.{IsWellFormed};
-ghost use Rattle.dfc_jobs.specs.Tasks.{Regen, Run};
+ghost use Rattle.job_terms.specs.Tasks.{Regen, Run};
 ghost use Rattle.job_laws.specs.Headline.{MeansOn};
 ghost use Rattle.job_laws.specs.SourceRuns.{run_of};
 

@@ -3,9 +3,9 @@
 ghost use Rattle.std.specs.Prelude.{Bool};
 ghost use Rattle.f77_tree.specs.declared.programs.Program.{Program};
 ghost use Rattle.f77_tree.specs.WellFormed.{IsWellFormed};
-ghost use Rattle.dfc_jobs.specs.declared.task.Told.{Told};
-ghost use Rattle.dfc_jobs.specs.Game.{fork_game, operation_game};
-ghost use Rattle.dfc_jobs.specs.Tasks.{Asked, Forks, Play};
+ghost use Rattle.job_terms.specs.declared.task.Told.{Told};
+ghost use Rattle.program_nets.specs.Game.{fork_game, operation_game};
+ghost use Rattle.job_terms.specs.Tasks.{Asked, Forks, Play};
 ghost use Rattle.job_laws.specs.GameLaws.{GameLaws, GamesAreDue};
 ghost use Rattle.job_laws.specs.Headline.{MeansOn};
 ghost use Rattle.job_laws.specs.SourceRuns.{run_of};

@@ -3,7 +3,7 @@
 ghost use Rattle.std.specs.Prelude.{Bool};
 ghost use Rattle.f77_tree.specs.declared.programs.Program.{Program};
 ghost use Rattle.f77_tree.specs.WellFormed.{IsWellFormed};
-ghost use Rattle.dfc_jobs.specs.Tasks.{Graph, Regions};
+ghost use Rattle.job_terms.specs.Tasks.{Graph, Regions};
 ghost use Rattle.job_laws.specs.Headline.{MeansOn};
 ghost use Rattle.job_laws.specs.SourceRuns.{run_of};
 

@@ -3,7 +3,7 @@
 ghost use Rattle.std.specs.Prelude.{ℕ, List, false};
 ghost use Rattle.f77_tree.specs.declared.programs.Program.{Program};
 ghost use Rattle.f77_tree.specs.WellFormed.{IsWellFormed};
-ghost use Rattle.dfc_jobs.specs.Reading.{IfAccepted, reading};
+ghost use Rattle.job_terms.specs.Reading.{IfAccepted, reading};
 ghost use Rattle.job_laws.specs.Headline.{MeansSample, MeansSampleText};
 
 use crate::forms::runs_mean;

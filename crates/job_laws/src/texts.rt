@@ -3,8 +3,8 @@
 ghost use Rattle.std.specs.Prelude.{ℕ, Bool, List};
 ghost use Rattle.f77_tree.specs.declared.programs.Program.{Program};
 ghost use Rattle.f77_source.specs.Reading.{IsProgramOf};
-ghost use Rattle.dfc_jobs.specs.Reading.{IsOwnProgram, reading};
-ghost use Rattle.dfc_jobs.specs.Tasks.{Task};
+ghost use Rattle.job_terms.specs.Reading.{IsOwnProgram, reading};
+ghost use Rattle.job_terms.specs.Tasks.{Task};
 ghost use Rattle.job_laws.specs.Data.{HasWords};
 ghost use Rattle.job_laws.specs.Headline.{MeansRead};
 ghost use Rattle.job_laws.specs.SourceRuns.{RunsAs};

@@ -1,8 +1,8 @@
 -- What a job that was done, trapped or came to its limit has added.
 use Rattle.std.proofs.Common.{◌≡◌, ℕ, true, List, Some, ap, ◌∙◌, arith}
-use Rattle.dfc_jobs.specs.Answers.{Answers, AnswersAs, IsTold, code_of}
-use Rattle.dfc_jobs.specs.declared.status.Status.{Status}
-use Rattle.dfc_jobs.specs.declared.status.Status.TheVariants.{Done, Usage, Refused, Trapped, Limit, ReadFault, WriteFault, NoMemory}
+use Rattle.job_terms.specs.Answers.{Answers, AnswersAs, IsTold, code_of}
+use Rattle.job_terms.specs.declared.status.Status.{Status}
+use Rattle.job_terms.specs.declared.status.Status.TheVariants.{Done, Usage, Refused, Trapped, Limit, ReadFault, WriteFault, NoMemory}
 use Rattle.dfc_driver.specs.WordsDue.{IsDue}
 use Rattle.made_texts.specs.Texts.{Prints, is_shown}
 

@@ -1,7 +1,7 @@
 -- What `dfc` prints of a program, for one command after another.
 use Rattle.std.specs.Prelude.{◌≡◌, ◌==◌, ◌||◌, ℕ, Bool, true, false, List, ◌∷◌, ◌++◌, codes}
-use Rattle.dfc_jobs.specs.Answers.{code_of}
-use Rattle.dfc_jobs.specs.Due.{Due, all_due}
+use Rattle.job_terms.specs.Answers.{code_of}
+use Rattle.job_terms.specs.Due.{Due, all_due}
 use Rattle.dfc_driver.specs.WordsDue.{IsDue}
 use Rattle.view_commands.specs.RunWords.{dialect_in}
 

@@ -1,6 +1,6 @@
 ghost use Rattle.std.specs.Prelude.{◌≤◌, IfOk, Some, map};
 ghost use Rattle.std.specs.String.{string_bytes};
-ghost use Rattle.dfc_jobs.specs.Answers.{Answers};
+ghost use Rattle.job_terms.specs.Answers.{Answers};
 ghost use Rattle.dfc_driver.specs.WordsDue.{IsDue};
 
 use crate::text_sink::TextSink;

@@ -4,7 +4,7 @@ use Rattle.std.specs.Fmt.{decimal}
 use Rattle.cfg_build.specs.declared.pieces.Piece.{Piece}
 use Rattle.cfg_build.specs.declared.pieces.PieceKind.{PieceKind}
 use Rattle.cfg_build.specs.declared.pieces.PieceKind.TheVariants.{Start, Act, Pass, Branch, Join, Hold, End}
-use Rattle.dfc_jobs.specs.Regions.{kind_name, piece_line, edge_line, region_line}
+use Rattle.graph_jobs.specs.Regions.{kind_name, piece_line, edge_line, region_line}
 use Rattle.printed_graphs.specs.declared.flow.Edge as printed_edge
 use Rattle.printed_graphs.specs.declared.flow.Piece as printed_piece
 use Rattle.printed_graphs.specs.declared.flow.PieceKind as printed_kind

@@ -8,7 +8,7 @@ use Rattle.closed_walks.specs.Numbering.{fresh, IsNumbering}
 use Rattle.cfg_build.specs.Joined.{FlowGraph}
 use Rattle.cfg_build.specs.Flow.{piece_at}
 use Rattle.region_tree.specs.Tree.{Tree, IsRegionTree, region_count, entry_of, exit_of, parent_of}
-use Rattle.dfc_jobs.specs.Regions.{counts_line, piece_line, edge_line, region_line, piece_lines, edge_lines, region_lines, regions_text}
+use Rattle.graph_jobs.specs.Regions.{counts_line, piece_line, edge_line, region_line, piece_lines, edge_lines, region_lines, regions_text}
 use Rattle.printed_graphs.specs.declared.flow.Edge.{Edge}
 use Rattle.printed_graphs.specs.declared.flow.Piece.{Piece}
 use Rattle.printed_graphs.specs.declared.flow.PrintedFlow.{PrintedFlow}

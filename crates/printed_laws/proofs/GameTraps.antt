@@ -16,8 +16,8 @@ use Rattle.op_board.specs.Effects.{Effect}
 use Rattle.op_board.specs.Operations.{Operation}
 use Rattle.op_board.specs.OperationNets.{OperationNet, operation_at, operation_node}
 use Rattle.op_board.specs.OperationTokens.{OperationTokens, fired_as, operated, operated_on, performed_at, stopped_by, zero_effect}
-use Rattle.dfc_jobs.specs.Game.{Marking, Place, game_of}
-use Rattle.dfc_jobs.specs.Playing.{opening, way_of}
+use Rattle.program_nets.specs.Game.{Marking, Place, game_of}
+use Rattle.program_nets.specs.Playing.{opening, way_of}
 use Rattle.printed_laws.proofs.NetNodes.{IsNodeOf, node_named}
 use Rattle.printed_laws.proofs.NodeLines.{IsBelow, number_below}
 use Rattle.printed_laws.proofs.TraceLines.{AreShortTo, HasShortTrap, IsShortName}

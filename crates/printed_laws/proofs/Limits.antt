@@ -6,9 +6,9 @@ use Rattle.std.proofs.Math.Nat.{lt_of_lt_of_le, lt_trans, mul_assoc, mul-le-mul_
 use Rattle.std.proofs.lemmas.Bool.{and_parts, leb-true}
 use Rattle.f77_tree.specs.Name.{is_figure}
 use Rattle.fixed_form.specs.Columns.{number}
-use Rattle.dfc_jobs.specs.declared.task.Told.{Told}
+use Rattle.job_terms.specs.declared.task.Told.{Told}
 use Rattle.dfc_driver.specs.declared.words.Setting.TheVariants as setting
-use Rattle.dfc_jobs.specs.Tasks.{Asked, Play, Forks, Regen, Regions, Graph, Run, Task}
+use Rattle.job_terms.specs.Tasks.{Asked, Play, Forks, Regen, Regions, Graph, Run, Task}
 use Rattle.dfc_driver.specs.Words.{Job, On, Sample, after, are_digits_to, asked_of, dialect_after, dialect_of, forks_of, game_of_words, is_sample, is_setting, is_text, job_of, limit_in, name_of, on, play_of, run_of, sample_of, text_of, told_by, values_in, word_value}
 
 figure : (c : ℕ) → is_figure c ≡ true → c - 48 ≤ 9

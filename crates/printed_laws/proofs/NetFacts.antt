@@ -12,7 +12,7 @@ use Rattle.dep_routing.specs.Next.{Next}
 use Rattle.dep_routing.specs.Routing.{next_at}
 use Rattle.net_board.specs.Nodes.{graph_in}
 use Rattle.op_board.specs.OperationNets.{OperationNet, all_operation_nodes}
-use Rattle.dfc_jobs.specs.Game.{IsNetOn}
+use Rattle.program_nets.specs.Game.{IsNetOn}
 use Rattle.printed_laws.specs.ShortFlow.{IsShortFlow}
 use Rattle.printed_laws.specs.ShortNet.{IsShortNet}
 use Rattle.printed_laws.specs.ShortProgram.{IsShortProgram}

@@ -14,7 +14,8 @@ use Rattle.firing.specs.declared.system.NodeName.{NodeName}
 use Rattle.firing.specs.declared.system.NodeName.TheVariants.{Act, Merge, Switch, Op}
 use Rattle.firing.specs.NameLine.{name_line}
 use Rattle.firing.specs.Play.{Moment, Way, node_at, shown}
-use Rattle.dfc_jobs.specs.Due.{Due, IsDueBy, all_due, trap_name}
+use Rattle.job_terms.specs.Due.{Due, all_due, trap_name}
+use Rattle.game_jobs.specs.DueGames.{IsDueBy}
 use Rattle.printed_graphs.specs.declared.trace.Firing.{Firing}
 use Rattle.printed_graphs.specs.declared.trace.NodeName.{NodeName as PrintedName}
 use Rattle.printed_graphs.specs.declared.trace.NodeName.TheVariants as name

@@ -4,11 +4,12 @@ use Rattle.f77_tree.specs.declared.programs.Program.{Program}
 use Rattle.cfg_build.specs.Flow.{flow, piece_at}
 use Rattle.net_board.specs.Nodes.{NetOf}
 use Rattle.op_board.specs.OperationNets.{OperationNet}
-use Rattle.dfc_jobs.specs.declared.task.Told.TheVariants.{Nodes}
-use Rattle.dfc_jobs.specs.Due.{Due, IsDuePlay, IsToldBy, all_due}
-use Rattle.dfc_jobs.specs.Game.{Marking, Place, game_of, operation_game}
-use Rattle.dfc_jobs.specs.Playing.{Game, opening, way_of}
-use Rattle.dfc_jobs.specs.Tasks.{Asked}
+use Rattle.job_terms.specs.declared.task.Told.TheVariants.{Nodes}
+use Rattle.job_terms.specs.Due.{Due, all_due}
+use Rattle.game_jobs.specs.DueGames.{IsDuePlay, IsToldBy}
+use Rattle.program_nets.specs.Game.{Marking, Place, game_of, operation_game}
+use Rattle.program_nets.specs.Playing.{Game, opening, way_of}
+use Rattle.job_terms.specs.Tasks.{Asked}
 use Rattle.printed_laws.specs.ShortFlow.{IsShortFlow}
 use Rattle.printed_laws.proofs.GameTraps.{StandsAt, fired_short, trap_short}
 use Rattle.printed_laws.proofs.NodeLines.{IsBelow}

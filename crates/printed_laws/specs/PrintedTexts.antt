@@ -7,7 +7,8 @@ use Rattle.cfg_build.specs.Flow.{flow}
 use Rattle.printed_graphs.specs.Printable.{IsPrintedText}
 use Rattle.printed_laws.specs.ShortNet.{IsShortNet}
 use Rattle.printed_laws.specs.ShortProgram.{IsShortProgram}
-use Rattle.dfc_jobs.specs.Due.{TellsGraph, Due, all_due}
+use Rattle.graph_jobs.specs.DueGraphs.{TellsGraph}
+use Rattle.job_terms.specs.Due.{Due, all_due}
 use Rattle.printed_laws.specs.TraceOf.{IsTraceOf, net_fired}
 
 -- a text that tells the net of a program can be read

@@ -2,10 +2,11 @@
 use Rattle.std.specs.Prelude.{◌≡◌, ℕ, Bool, List, Some}
 use Rattle.f77_tree.specs.declared.programs.Program.{Program}
 use Rattle.op_board.specs.OperationNets.{OperationNet}
-use Rattle.dfc_jobs.specs.declared.task.Told.TheVariants.{Nodes}
-use Rattle.dfc_jobs.specs.Due.{Due, IsDuePlay}
-use Rattle.dfc_jobs.specs.Game.{operation_game}
-use Rattle.dfc_jobs.specs.Tasks.{Asked, Play}
+use Rattle.job_terms.specs.declared.task.Told.TheVariants.{Nodes}
+use Rattle.job_terms.specs.Due.{Due}
+use Rattle.game_jobs.specs.DueGames.{IsDuePlay}
+use Rattle.program_nets.specs.Game.{operation_game}
+use Rattle.job_terms.specs.Tasks.{Asked, Play}
 use Rattle.dfc_driver.specs.Words.{On, job_of}
 
 -- The words ask for a trace, and this is due of it on the program.

@@ -1,5 +1,5 @@
-//! What `dfc` prints can be read again: laws over the texts that `dfc_jobs` tells and those that `printed_graphs` reads. No code of the
-//! compiler is here.
+//! What `dfc` prints can be read again: laws over the texts that `graph_jobs` and `game_jobs` tell and those that `printed_graphs` reads. No
+//! code of the compiler is here.
 #![tactic(auto)]
 
 mod flows;

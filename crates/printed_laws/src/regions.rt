@@ -4,7 +4,7 @@ ghost use Rattle.std.specs.Prelude.{List, ℕ};
 ghost use Rattle.f77_tree.specs.declared.programs.Program.{Program};
 ghost use Rattle.f77_tree.specs.WellFormed.{IsWellFormed};
 ghost use Rattle.cfg_build.specs.Flow.{flow};
-ghost use Rattle.dfc_jobs.specs.Regions.{TellsRegions};
+ghost use Rattle.graph_jobs.specs.Regions.{TellsRegions};
 ghost use Rattle.printed_graphs.specs.Printable.{IsPrintedText};
 ghost use Rattle.printed_laws.specs.ShortFlow.{IsShortFlow};
 

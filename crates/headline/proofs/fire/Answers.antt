@@ -1,5 +1,5 @@
-use Rattle.dfc_jobs.specs.declared.task.Told.TheVariants.{Output}
-use Rattle.dfc_jobs.specs.Tasks.{Play, asked_in}
+use Rattle.job_terms.specs.declared.task.Told.TheVariants.{Output}
+use Rattle.job_terms.specs.Tasks.{Play, asked_in}
 use Rattle.headline.proofs.Saying.{said}
 use Rattle.headline.proofs.fire.Goals as goal
 

@@ -1,4 +1,4 @@
-use Rattle.dfc_jobs.specs.Tasks.{Forks, asked_in}
+use Rattle.job_terms.specs.Tasks.{Forks, asked_in}
 use Rattle.headline.proofs.Saying.{said}
 use Rattle.headline.proofs.forks.Goals as goal
 

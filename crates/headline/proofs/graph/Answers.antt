@@ -1,4 +1,4 @@
-use Rattle.dfc_jobs.specs.Tasks.{Graph}
+use Rattle.job_terms.specs.Tasks.{Graph}
 use Rattle.headline.proofs.Saying.{said}
 use Rattle.headline.proofs.graph.Goals as goal
 

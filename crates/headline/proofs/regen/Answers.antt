@@ -1,4 +1,4 @@
-use Rattle.dfc_jobs.specs.Tasks.{Regen}
+use Rattle.job_terms.specs.Tasks.{Regen}
 use Rattle.headline.proofs.Saying.{said}
 use Rattle.headline.proofs.regen.Goals as goal
 

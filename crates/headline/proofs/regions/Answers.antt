@@ -1,4 +1,4 @@
-use Rattle.dfc_jobs.specs.Tasks.{Regions}
+use Rattle.job_terms.specs.Tasks.{Regions}
 use Rattle.headline.proofs.Saying.{said}
 use Rattle.headline.proofs.regions.Goals as goal
 

@@ -1,4 +1,4 @@
-use Rattle.dfc_jobs.specs.Tasks.{Run}
+use Rattle.job_terms.specs.Tasks.{Run}
 use Rattle.headline.proofs.Saying.{said}
 use Rattle.headline.proofs.run.Goals as goal
 

@@ -1,5 +1,5 @@
 use Rattle.sample_texts.specs.SampleText.{sample_text}
-use Rattle.dfc_jobs.specs.Due.{sample_limit}
+use Rattle.sample_jobs.specs.DueSamples.{sample_limit}
 use Rattle.dfc_driver.proofs.TopAnswers.{sample_answers, sample_blames, sample_promises, sample_words}
 use Rattle.dfc_driver.proofs.top.do_job.Goals as goal
 

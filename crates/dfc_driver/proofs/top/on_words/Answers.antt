@@ -1,4 +1,4 @@
-use Rattle.dfc_jobs.specs.Reading.{IsOwnProgram, reading}
+use Rattle.job_terms.specs.Reading.{IsOwnProgram, reading}
 use Rattle.job_laws.specs.Headline.{MeansRead}
 use Rattle.dfc_driver.specs.Meant.{task_meant}
 use Rattle.dfc_driver.proofs.TopAnswers.{promised}

@@ -1,7 +1,7 @@
 use Rattle.std.proofs.Common.{Err, subst}
 use Rattle.std.specs.Prelude.{IfSome}
-use Rattle.dfc_jobs.specs.declared.reading.NoProgram.{NoProgram}
-use Rattle.dfc_jobs.specs.Reading.{IsReadAs, reading}
+use Rattle.job_terms.specs.declared.reading.NoProgram.{NoProgram}
+use Rattle.job_terms.specs.Reading.{IsReadAs, reading}
 use Rattle.dfc_jobs.proofs.TextsRead.{no_program, own_program}
 use Rattle.dfc_jobs.proofs.job.do_task.Goals as goal
 

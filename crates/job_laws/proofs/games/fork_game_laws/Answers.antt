@@ -1,4 +1,4 @@
-use Rattle.dfc_jobs.specs.Game.{fork_game}
+use Rattle.program_nets.specs.Game.{fork_game}
 use Rattle.job_laws.proofs.ForkGames.{ForkLaws, fork_laws}
 use Rattle.job_laws.proofs.NetGames.{game_laws_of}
 use Rattle.job_laws.proofs.OneNet.{OneOfEach}

@@ -1,4 +1,4 @@
-use Rattle.dfc_jobs.specs.Game.{operation_game}
+use Rattle.program_nets.specs.Game.{operation_game}
 use Rattle.job_laws.proofs.NetGames.{game_laws_of}
 use Rattle.job_laws.proofs.OneNet.{OneOfEach}
 use Rattle.job_laws.proofs.OperationGames.{LockstepLaws, operation_laws}

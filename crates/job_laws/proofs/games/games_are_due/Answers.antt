@@ -2,8 +2,8 @@ use Rattle.std.proofs.Common.{ℕ, List, [], ◌∷◌}
 use Rattle.firing.specs.Runs.{HasEnd}
 use Rattle.op_board.specs.OperationNets.{OperationNet}
 use Rattle.op_board.specs.SoundOperationNets.{IsOperationNet}
-use Rattle.dfc_jobs.specs.Game.{game_of, operation_game}
-use Rattle.dfc_jobs.specs.Playing.{opening, way_of}
+use Rattle.program_nets.specs.Game.{game_of, operation_game}
+use Rattle.program_nets.specs.Playing.{opening, way_of}
 use Rattle.job_laws.proofs.Existing.{game_due}
 use Rattle.job_laws.proofs.games.games_are_due.Goals as goal
 

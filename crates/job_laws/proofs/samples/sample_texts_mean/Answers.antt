@@ -1,5 +1,5 @@
 use Rattle.std.proofs.Common.{false, length}
-use Rattle.dfc_jobs.specs.Reading.{reading}
+use Rattle.job_terms.specs.Reading.{reading}
 use Rattle.job_laws.proofs.TextsMean.{sample_means}
 use Rattle.job_laws.proofs.samples.sample_texts_mean.Goals as goal
 

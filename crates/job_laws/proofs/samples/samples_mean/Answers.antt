@@ -1,8 +1,8 @@
 use Rattle.std.proofs.Common.{false, []}
 use Rattle.std.proofs.lemmas.List.Elements.{All-nil}
 use Rattle.op_table.specs.Words.{IsWord}
-use Rattle.dfc_jobs.specs.declared.task.Told.TheVariants.{Output}
-use Rattle.dfc_jobs.specs.Due.{up_to}
+use Rattle.job_terms.specs.declared.task.Told.TheVariants.{Output}
+use Rattle.sample_jobs.specs.DueSamples.{up_to}
 use Rattle.job_laws.proofs.SamplesMean.{sample_means}
 use Rattle.job_laws.proofs.samples.samples_mean.Goals as goal
 

@@ -1,7 +1,7 @@
 use Rattle.std.proofs.Common.{ℕ, Bool, List}
 use Rattle.f77_tree.specs.declared.programs.Program.{Program}
-use Rattle.dfc_jobs.specs.Reading.{IsOf, reading}
-use Rattle.dfc_jobs.specs.Tasks.{Task, Regions, Graph, Play, Forks, Regen, Run}
+use Rattle.job_terms.specs.Reading.{IsOf, reading}
+use Rattle.job_terms.specs.Tasks.{Task, Regions, Graph, Play, Forks, Regen, Run}
 use Rattle.job_laws.specs.Data.{HasWords}
 use Rattle.job_laws.specs.Headline.{MeansOn}
 use Rattle.job_laws.specs.SourceRuns.{run_of}

@@ -1,6 +1,6 @@
 use Rattle.std.proofs.Common.{[]}
-use Rattle.dfc_jobs.specs.declared.task.Told.TheVariants.{Nodes}
-use Rattle.dfc_jobs.specs.Due.{all_due}
+use Rattle.job_terms.specs.declared.task.Told.TheVariants.{Nodes}
+use Rattle.job_terms.specs.Due.{all_due}
 use Rattle.printed_laws.proofs.GraphPrinted.{graph_told_by}
 use Rattle.printed_laws.proofs.Limits.{limits_are_small}
 use Rattle.printed_laws.proofs.NetFacts.{net_below, net_facts}

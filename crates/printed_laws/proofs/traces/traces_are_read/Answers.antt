@@ -1,5 +1,5 @@
-use Rattle.dfc_jobs.specs.declared.task.Told.TheVariants.{Nodes}
-use Rattle.dfc_jobs.specs.Due.{all_due}
+use Rattle.job_terms.specs.declared.task.Told.TheVariants.{Nodes}
+use Rattle.job_terms.specs.Due.{all_due}
 use Rattle.printed_laws.proofs.Limits.{limits_are_small}
 use Rattle.printed_laws.proofs.NetFacts.{net_below}
 use Rattle.printed_laws.proofs.Parts.{trace_alone}

@@ -1,0 +1,2 @@
+mod RunsMade
+pub mod FormsTold

@@ -1,0 +1,2 @@
+pub mod DueForms
+pub mod Stopping

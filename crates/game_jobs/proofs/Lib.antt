@@ -1,0 +1,4 @@
+pub mod GameTold
+mod OwnForks
+pub mod NameLines
+mod Items

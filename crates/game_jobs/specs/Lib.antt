@@ -1,0 +1,3 @@
+pub mod StoreText
+pub mod DueGames
+pub mod PlayedNets

@@ -1,0 +1,2 @@
+mod RegionsTold
+pub mod GraphMade

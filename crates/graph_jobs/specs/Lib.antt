@@ -1,0 +1,4 @@
+pub mod Regions
+pub mod Found
+pub mod Drawn
+pub mod DueGraphs

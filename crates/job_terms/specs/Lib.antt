@@ -1,0 +1,5 @@
+pub mod Tasks
+pub mod Codes
+pub mod Reading
+pub mod Due
+pub mod Answers

@@ -1,0 +1,4 @@
+mod SamplesTold
+mod ThreeTexts
+mod SamplesMade
+mod FirstLines

@@ -1,0 +1,2 @@
+pub mod DueSamples
+pub mod Samples
