@@ -3,7 +3,7 @@
 ghost use Rattle.std.specs.Prelude.{◌≡◌, IfOk, vec_len};
 
 use crate::caller::Caller;
-use fortran_tree::{Kind, LowerError, Name, Node, Place, Reason, Token};
+use fortran_tree::{Kind, LowerError, Name, Node, Place, Reason, Rule, Token};
 use unit_tables::{assignment, joined, name_alone, pieces_of, word};
 
 /// What stands between the brackets of a name with brackets.
@@ -103,7 +103,7 @@ impl Caller {
     /// A variable in place of an expression, which is assigned to it before the call.
     fn assigned(&mut self, value: &[Node], place: Place) -> Result<Vec<Node>, LowerError> {
         let kind = self.kind_of(value);
-        let name = self.variable(kind, place)?;
+        let name = self.variable(kind, Rule::Arguments, place)?;
         if let Some(value) = word(self.program.alloc, value, place)? {
             self.program.constants.insert(name, value)?;
         }
@@ -117,7 +117,7 @@ impl Caller {
         if word(self.program.alloc, &subscript, place)?.is_some() {
             return Ok(subscript);
         }
-        let index = self.variable(Some(Kind::Integer), place)?;
+        let index = self.variable(Some(Kind::Integer), Rule::Arguments, place)?;
         let index = name_alone(self.program.alloc, index, place)?;
         self.assign_before(&index, &subscript, place)?;
         Ok(index)
@@ -148,7 +148,8 @@ impl Caller {
         place: Place,
     ) -> Result<Vec<Node>, LowerError> {
         let element = self.fixed_element(array, subscripts, place)?;
-        let name = self.variable(self.kind(array), place)?;
+        let name = self.variable(self.kind(array), Rule::Arguments, place)?;
+        self.program.growth.add(Rule::Arguments, 1, place)?;
         let variable = name_alone(self.program.alloc, name, place)?;
         self.assign_before(&variable, &element, place)?;
         let taken_back = assignment(self.program.alloc, &element, &variable, place)?;

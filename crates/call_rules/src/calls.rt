@@ -5,7 +5,7 @@ ghost use Rattle.call_rules.specs.Calls.{block_heads, heads, may_call as calls};
 
 use crate::caller::Caller;
 use crate::program::Program;
-use fortran_tree::{Head, LowerError, Name, Node, Place, Reason, Statement};
+use fortran_tree::{Head, LowerError, Name, Node, Place, Reason, Rule, Statement};
 use function_rules::{StatementFunction, element_of_no_array, statement_function};
 use std::alloc::Global;
 use unit_rules::{is_open_read, read_in_loops, write_items};
@@ -114,11 +114,15 @@ impl Caller {
     /// A statement whose items are written out, as several where READ has to be in loops.
     fn parts(&mut self, statement: Statement) -> Result<Vec<Statement>, LowerError> {
         let alloc = self.program.alloc;
-        if is_open_read(alloc, &statement)? {
-            return read_in_loops(alloc, &self.symbols, &mut self.labels, &statement);
-        }
+        let place = statement.place;
         let mut parts = Vec::new(alloc);
-        write_items(alloc, &self.symbols, statement, &mut parts)?;
+        if is_open_read(alloc, &statement)? {
+            parts = read_in_loops(alloc, &self.symbols, &mut self.labels, &statement)?;
+        } else {
+            write_items(alloc, &self.symbols, statement, &mut parts)?;
+        }
+        let more = parts.len().saturating_sub(1);
+        self.program.growth.add(Rule::Lists, more, place)?;
         Ok(parts)
     }
 
@@ -156,6 +160,9 @@ impl Caller {
             if let Some(more) = self.blocks.last_mut() {
                 *more = more.saturating_add(1);
             }
+            self.program
+                .growth
+                .add(Rule::Functions, 2, statement.place)?;
             lines.push(Statement::bare(alloc, Head::Else, statement.place))?;
             lines.append(&mut self.before)?;
             statement.head = Head::Then;

@@ -1,25 +1,20 @@
 //! Copies of units: one for each set of bounds that calls give the array dummies of a unit.
 
+use crate::known::{Known, gives, told_values};
 use crate::program::Program;
 use fortran_tree::{
-    Head, LowerError, Name, Names, Node, Place, Reason, Statement, Token, copied, leaf,
+    Head, LowerError, Name, Names, Node, Place, Reason, Rule, Statement, Token, copied, leaf,
 };
 use function_rules::dummies_of;
 use indexmap::IndexMap;
 use std::alloc::Global;
 use unit_tables::{
-    Bound, Replacements, Symbols, Unit, agreed, bounds_of, fresh_name, pieces_of, signed,
-    written_bounds,
+    Bound, MOST_STATEMENTS, Replacements, Symbols, Unit, agreed, bounds_of, fresh_name, pieces_of,
+    signed, written_bounds,
 };
-
-/// How many statements, and so how many units, a program has at most.
-const MOST_STATEMENTS: usize = 4000;
 
 /// The bounds of a unit's dummies, none for a dummy that is no array.
 type Shapes = Vec<Option<Vec<Bound>>>;
-
-/// The bounds of arrays that are known.
-type Known = IndexMap<Name, Vec<Bound>>;
 
 /// A unit that may be copied.
 #[derive(Drop)]
@@ -64,24 +59,40 @@ impl Original {
         }
     }
 
-    /// The bounds of its dummies that are arrays, where they have these.
-    fn known_dummies(&self, alloc: Global, shapes: &Shapes) -> Result<Known, LowerError> {
-        let mut known: Known = IndexMap::new(alloc);
-        for (dummy, shape) in self.dummies.iter().zip(shapes) {
-            if let Some(bounds) = shape {
-                known.insert(*dummy, Vec::from_slice(alloc, bounds)?)?;
+    /// Keeps what the bounds of a dummy tell: themselves, and the constants that are passed to dummies among the declared ones.
+    fn learn(
+        &self,
+        alloc: Global,
+        known: &mut Known,
+        dummy: Name,
+        bounds: &[Bound],
+    ) -> Result<(), LowerError> {
+        known.bounds.insert(dummy, Vec::from_slice(alloc, bounds)?)?;
+        let Some(declared) = self.symbols.arrays.get(&dummy) else {
+            return Ok(());
+        };
+        for (name, value) in told_values(alloc, declared, bounds)? {
+            if self.dummies.contains(&name) && !gives(&self.unit.statements, name) {
+                known.values.insert(name, value)?;
             }
         }
-        Ok(known)
+        Ok(())
     }
 
-    /// The bounds of its arrays where its dummies have these.
+    /// What is known where its dummies have these bounds.
     fn known(&self, alloc: Global, shapes: &Shapes) -> Result<Known, LowerError> {
-        let mut known = self.known_dummies(alloc, shapes)?;
+        let mut known = Known::new(alloc);
+        for (dummy, shape) in self.dummies.iter().zip(shapes) {
+            if let Some(bounds) = shape {
+                self.learn(alloc, &mut known, *dummy, bounds)?;
+            }
+        }
         let place = self.unit.place();
         for (name, declared) in &self.symbols.arrays {
-            if known.get(name).is_none() && !self.dummies.contains(name) {
-                known.insert(*name, bounds_of(alloc, declared, place)?)?;
+            if known.bounds.get(name).is_none() && !self.dummies.contains(name) {
+                known
+                    .bounds
+                    .insert(*name, bounds_of(alloc, declared, place)?)?;
             }
         }
         Ok(known)
@@ -111,13 +122,14 @@ impl Original {
     fn constants(
         &self,
         program: &Program,
+        known: &Known,
         arguments: &[Option<Name>],
         place: Place,
     ) -> Result<Replacements, LowerError> {
         let mut values: Replacements = IndexMap::new(program.alloc);
         for (dummy, argument) in self.dummies.iter().zip(arguments) {
-            if let Some(value) = argument.and_then(|name| program.constants.get(&name)) {
-                values.insert(*dummy, signed(program.alloc, *value, place)?)?;
+            if let Some(value) = argument.and_then(|name| known.constant(program, name)) {
+                values.insert(*dummy, signed(program.alloc, value, place)?)?;
             }
         }
         Ok(values)
@@ -136,7 +148,7 @@ impl Original {
         let Some(declared) = self.symbols.arrays.get(&dummy) else {
             return Ok(None);
         };
-        match argument.and_then(|name| known.get(&name)) {
+        match argument.and_then(|name| known.bounds.get(&name)) {
             Some(bounds) => Ok(Some(agreed(alloc, declared, bounds, values, place)?)),
             None => Err(place.refused(Reason::Bounds)),
         }
@@ -152,7 +164,7 @@ impl Original {
         let alloc = program.alloc;
         let place = statement.place;
         let arguments = passed(alloc, statement)?;
-        let values = self.constants(program, &arguments, place)?;
+        let values = self.constants(program, known, &arguments, place)?;
         let mut shapes: Shapes = Vec::new(alloc);
         for (dummy, argument) in self.dummies.iter().zip(&arguments) {
             shapes.push(self.shape(alloc, *dummy, *argument, known, &values, place)?)?;
@@ -218,7 +230,7 @@ fn redeclared(
         match node {
             Node::Leaf(token, place) => out.push(leaf(*token, *place))?,
             Node::Group(inside, place) => {
-                let inside = match dummy.and_then(|name| known.get(&name)) {
+                let inside = match dummy.and_then(|name| known.bounds.get(&name)) {
                     Some(bounds) => written_bounds(alloc, bounds, *place)?,
                     None => copied(alloc, inside)?,
                 };
@@ -272,9 +284,12 @@ impl Copier {
         if self.copies.iter().all(|copy| copy.unit != unit) {
             return Ok(callee);
         }
-        let original = self.originals.get(unit);
-        if original.is_some_and(|original| original.keeps_values) {
-            return Err(place.refused(Reason::KeptValues));
+        if let Some(original) = self.originals.get(unit) {
+            if original.keeps_values {
+                return Err(place.refused(Reason::KeptValues));
+            }
+            let more = original.unit.statements.len();
+            program.growth.add(Rule::Bounds, more, place)?;
         }
         fresh_name(
             program.alloc,
@@ -344,18 +359,6 @@ impl Copier {
         Ok(())
     }
 
-    /// Refuses more statements than a program has.
-    fn refuse_many(&self) -> Result<(), LowerError> {
-        let mut count = 0usize;
-        for (_, unit) in &self.written {
-            count = count.saturating_add(unit.statements.len());
-            if count > MOST_STATEMENTS {
-                return Err(unit.place().refused(Reason::TooMany));
-            }
-        }
-        Ok(())
-    }
-
     /// The copy with this number, where there is one: its unit's number, the bounds of its arrays, and its statements, whose calls are still
     /// those of the unit.
     fn begun(
@@ -381,7 +384,6 @@ impl Copier {
         };
         self.calls(program, &known, &mut statements)?;
         self.written.push((unit, Unit { statements }))?;
-        self.refuse_many()?;
         Ok(true)
     }
 
@@ -428,7 +430,8 @@ fn in_text_order(copier: Copier, alloc: Global) -> Result<Vec<Unit>, LowerError>
     Ok(units)
 }
 
-/// The same program, where each array dummy has the bounds of the arrays that are passed.
+/// The same program, where each array dummy has the bounds of the arrays that are passed. Of units and copies of units that calls reach the
+/// first 4,000 are written: a program has no more, since each has a statement.
 pub fn with_bounds(program: &mut Program, units: Vec<Unit>) -> Result<Vec<Unit>, LowerError> {
     let alloc = program.alloc;
     let mut copier = copier_of(alloc, &program.names, units)?;

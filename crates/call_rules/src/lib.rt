@@ -6,6 +6,7 @@ mod arguments;
 mod caller;
 mod calls;
 mod copies;
+mod known;
 mod program;
 mod values;
 

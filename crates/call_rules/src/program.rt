@@ -4,11 +4,11 @@ ghost use Rattle.std.specs.Prelude.{◌≡◌, IfOk};
 ghost use Rattle.fortran_tree.specs.declared.heads.Head.TheVariants.{Call};
 
 use crate::caller::Caller;
-use fortran_tree::{Head, Kind, LowerError, Name, Names, Node, Place, Statement};
+use fortran_tree::{Head, Kind, LowerError, Name, Names, Node, Place, Rule, Statement};
 use function_rules::{Signatures, as_subroutine, called_names, dummies_of, without_functions};
 use indexmap::IndexMap;
 use std::alloc::Global;
-use unit_tables::{Symbols, Unit, fresh_name, joined, name_alone};
+use unit_tables::{Growth, Symbols, Unit, fresh_name, joined, name_alone};
 
 /// What all units share.
 #[derive(Drop)]
@@ -18,6 +18,7 @@ pub struct Program {
     /// Names like Z00001 are used below this number.
     pub next_name: u32,
     pub signatures: Signatures,
+    pub growth: Growth,
     /// The values of variables that stand for constants as arguments.
     pub constants: IndexMap<Name, i32>,
 }
@@ -80,7 +81,9 @@ impl Program {
         let Some(kind) = self.function_kind(&unit) else {
             return Ok(unit);
         };
-        let value = self.fresh(unit.place())?;
+        let place = unit.place();
+        let value = self.fresh(place)?;
+        self.growth.add(Rule::Functions, 1, place)?;
         as_subroutine(self.alloc, &self.names, unit, value, kind)
     }
 

@@ -1,7 +1,9 @@
 //! Expressions, of which the calls of functions are made before.
 
 use crate::caller::Caller;
-use fortran_tree::{Head, Kind, LowerError, Name, Node, Place, Reason, Statement, Token, leaf};
+use fortran_tree::{
+    Head, Kind, LowerError, Name, Node, Place, Reason, Rule, Statement, Token, leaf,
+};
 use function_rules::{StatementFunction, is_known_intrinsic};
 use unit_tables::{name_alone, pieces_of};
 
@@ -26,15 +28,17 @@ impl Caller {
         self.symbols.kind(&self.program.names, name)
     }
 
-    /// A new variable of a kind.
+    /// A new variable of a kind, for a rule by which one statement declares it and another gives it a value.
     pub(crate) fn variable(
         &mut self,
         kind: Option<Kind>,
+        rule: Rule,
         place: Place,
     ) -> Result<Name, LowerError> {
         let Some(kind) = kind else {
             return Err(place.refused(Reason::RealName));
         };
+        self.program.growth.add(rule, 2, place)?;
         let name = self.program.fresh(place)?;
         self.symbols.give(name, kind)?;
         let body = name_alone(self.program.alloc, name, place)?;
@@ -125,7 +129,7 @@ impl Caller {
         if kind != self.kind(name) {
             return Err(place.refused(Reason::FunctionKind));
         }
-        let value = self.variable(kind, place)?;
+        let value = self.variable(kind, Rule::Functions, place)?;
         let mut actuals = self.actuals(name, arguments, place)?;
         actuals.push(name_alone(self.program.alloc, value, place)?)?;
         let call = self.program.call(name, actuals, place)?;

@@ -17,7 +17,8 @@ fn sentence(code: Code) -> &'static str {
         Code::BadLabelField => "columns 1 to 5 hold no label",
         Code::StrayContinuation => "a continuation line with no statement above it",
         Code::TooManyContinuations => "a statement that needs more than 19 continuation lines",
-        Code::TooManyStatements => "a program that comes to more than 4,000 statements",
+        Code::TooManyStatements =>
+            "a program that comes to more than 4,000 statements where each CALL stands for those of its unit",
         Code::NoEnd => "the text does not end with END",
         Code::TooDeep => "a statement with more than 60 brackets in one another",
         Code::NoForm => "a statement that is not understood",
@@ -55,7 +56,8 @@ pub(crate) fn refuse_no_program(
     let first = Place { line: 1, column: 1 };
     let last = places.last().copied().unwrap_or(first);
     if text.len() > MOST_BYTES {
-        return Err(last.refused(Reason::TooMany));
+        let reason = Reason::Language("a program that comes to more than 4,194,304 bytes");
+        return Err(last.refused(reason));
     }
     match read_program(alloc, text, false) {
         Ok(_) => Ok(()),

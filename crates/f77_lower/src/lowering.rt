@@ -1,24 +1,24 @@
 //! From the text of a program to the text of the same program in the language of `dfc`.
 
-ghost use Rattle.std.specs.Prelude.{◌≡◌, ◌≤◌, length, IfOk, IfErr};
+ghost use Rattle.std.specs.Prelude.{◌≡◌, ◌<◌, ◌≤◌, length, IfOk, IfErr, OnOk};
 ghost use Rattle.f77_lower.specs.Lowering.{IsAsItWas, IsProgram, IsLineMap, line_feeds as line_feeds_in, number_of_lines as lines_in};
+ghost use Rattle.f77_lower.specs.ShortNames.{AreShortNames};
 ghost use Rattle.fortran_tree.specs.declared.error.LowerError.TheVariants.{NoMemory};
 
 use crate::language::{MOST_BYTES, refuse_no_program};
-use crate::shorten::short_names;
+use crate::shorten::{ShortNames, short_names};
 use call_rules::{Program, with_bounds};
 use f77_source::{SourceEnd, read_program};
-use fortran_tree::{LowerError, Name, Names, Place, Printer, Reason, Statement, read_statements};
+use fortran_tree::{
+    LowerError, Name, Names, Place, Printer, Reason, Rule, Statement, read_statements,
+};
 use function_rules::{signatures_of, without_block_data};
 use indexmap::IndexMap;
 use std::alloc::Global;
 use unit_rules::{
     in_order, refuse_late_declarations, with_constants, with_data, with_labelled_loops,
 };
-use unit_tables::{Symbols, Unit, main_first, units_of};
-
-/// How many statements a program has at most.
-const MOST_STATEMENTS: usize = 4000;
+use unit_tables::{Growth, MOST_STATEMENTS, Symbols, Unit, main_first, units_of};
 
 /// A lowered program.
 #[derive(Drop)]
@@ -27,15 +27,23 @@ pub struct Lowered {
     pub text: Vec<u8>,
     /// For each line of the text the line of the source that it comes from, counted from 1, and one more for the end of the text.
     pub lines: Vec<u32>,
-    /// The names of the source that had to be shortened, each with its short name.
+    /// The names of the source that had to be shortened, in upper case, each with its short name.
     pub renamed: Vec<(String, String)>,
 }
 
 /// A unit, lowered by the rules that look at one unit alone.
-fn lowered_alone(alloc: Global, names: &Names, unit: Unit) -> Result<Unit, LowerError> {
+fn lowered_alone(
+    alloc: Global,
+    names: &Names,
+    growth: &mut Growth,
+    unit: Unit,
+) -> Result<Unit, LowerError> {
+    let place = unit.place();
     let Unit { statements } = unit;
     refuse_late_declarations(&statements)?;
+    let count = statements.len();
     let statements = with_labelled_loops(alloc, statements)?;
+    growth.add(Rule::Loops, statements.len().saturating_sub(count), place)?;
     let statements = with_constants(alloc, names, statements)?;
     let symbols = Symbols::of(alloc, names, &statements)?;
     let mut written = Vec::new(alloc);
@@ -47,26 +55,45 @@ fn lowered_alone(alloc: Global, names: &Names, unit: Unit) -> Result<Unit, Lower
     })
 }
 
-/// The names that are spelled otherwise than in the source.
-fn renamed(
-    alloc: Global,
-    names: &Names,
-    shorts: IndexMap<Name, String>,
-) -> Result<Vec<(String, String)>, LowerError> {
-    let mut pairs = Vec::new(alloc);
-    for (name, short) in shorts {
-        pairs.push((String::from_str(alloc, names.spelling(name))?, short))?;
-    }
-    Ok(pairs)
-}
-
 /// The units of a text, lowered by the rules that look at one unit alone, the main program first.
-fn units_alone(alloc: Global, names: &mut Names, text: &[u8]) -> Result<Vec<Unit>, LowerError> {
+fn units_alone(
+    alloc: Global,
+    names: &mut Names,
+    text: &[u8],
+) -> Result<(Growth, Vec<Unit>), LowerError> {
     let statements = read_statements(alloc, names, text)?;
+    let mut growth = Growth::of(statements.len());
     let mut units = Vec::new(alloc);
     for unit in main_first(alloc, units_of(alloc, statements)?)? {
-        units.push(lowered_alone(alloc, names, unit)?)?;
+        units.push(lowered_alone(alloc, names, &mut growth, unit)?)?;
     }
+    Ok((growth, units))
+}
+
+/// How many statements units have.
+fn number_of_statements(units: &[Unit]) -> usize {
+    let mut count = 0usize;
+    for unit in units {
+        count = count.saturating_add(unit.statements.len());
+    }
+    count
+}
+
+/// The units without BLOCK DATA, whose values the main program has now.
+fn without_blocks(
+    alloc: Global,
+    names: &mut Names,
+    next_name: &mut u32,
+    growth: &mut Growth,
+    units: Vec<Unit>,
+) -> Result<Vec<Unit>, LowerError> {
+    let count = number_of_statements(&units);
+    let units = without_block_data(alloc, names, next_name, units)?;
+    let more = number_of_statements(&units).saturating_sub(count);
+    let place = units
+        .first()
+        .map_or(Place { line: 1, column: 1 }, |unit| unit.place());
+    growth.add(Rule::BlockData, more, place)?;
     Ok(units)
 }
 
@@ -92,16 +119,24 @@ fn called(program: Program, units: Vec<Unit>) -> Result<(Program, Vec<Unit>), Lo
     Ok((program, called))
 }
 
-/// The statements of the lowered program, in which units may be copied.
-fn lowered_statements(
-    program: &mut Program,
-    units: Vec<Unit>,
-) -> Result<Vec<Statement>, LowerError> {
-    let lowered = statements_of(program.alloc, with_bounds(program, units)?)?;
-    match lowered.get(MOST_STATEMENTS) {
-        Some(beyond) => Err(beyond.place.refused(Reason::TooMany)),
-        None => Ok(lowered),
+/// Refuses a program of more than 4,000 statements, where the first one beyond stands.
+fn refuse_many(growth: Growth, statements: &[Statement]) -> Result<(), LowerError>
+    ensures few { OnOk result (length statements.now ≤ MOST_STATEMENTS) }
+    ensures many { IfErr result (λ _. MOST_STATEMENTS < length statements.now) }
+{
+    if statements.len() > MOST_STATEMENTS {
+        return Err(statements[MOST_STATEMENTS].place.refused(growth.reason()));
     }
+    Ok(())
+}
+
+/// The statements of the lowered program, in which units may be copied.
+fn lowered_statements(program: &mut Program, units: Vec<Unit>) -> Result<Vec<Statement>, LowerError>
+    ensures { IfOk result (λ lowered. length lowered.items ≤ MOST_STATEMENTS) }
+{
+    let lowered = statements_of(program.alloc, with_bounds(program, units)?)?;
+    refuse_many(program.growth, &lowered)?;
+    Ok(lowered)
 }
 
 /// How many line feeds a text has.
@@ -120,13 +155,14 @@ fn number_of_lines(text: &[u8]) -> usize
 }
 
 /// A program as it is.
-#[tactic(auto, using(crate::proofs::Lines::few_lines, crate::proofs::Readings::same_program))]
+#[tactic(auto, using(crate::proofs::Lines::few_lines, crate::proofs::Readings::same_program, crate::proofs::Shorter::no_short_names))]
 fn as_it_is(alloc: Global, source: &[u8]) -> Result<Lowered, LowerError>
     requires few { length source.now ≤ MOST_BYTES }
     requires program { IsProgram source.now }
     ensures program { IfOk result (λ lowered. IsProgram lowered.text.items) }
     ensures same { IfOk result (IsAsItWas source.now) }
     ensures lines { IfOk result (λ lowered. IsLineMap source.now lowered.text.items lowered.lines.items) }
+    ensures names { IfOk result (λ lowered. AreShortNames lowered.renamed.items) }
     ensures refused { IfErr result (λ e. e ≡ NoMemory) }
 {
     let mut lines = Vec::new(alloc);
@@ -196,12 +232,12 @@ fn written(
     requires { length source.now ≤ MOST_BYTES }
     ensures program { IfOk result (λ lowered. IsProgram lowered.text.items) }
     ensures lines { IfOk result (λ lowered. IsLineMap source.now lowered.text.items lowered.lines.items) }
+    ensures names { IfOk result (λ lowered. AreShortNames lowered.renamed.items) }
 {
-    let shorts = short_names(alloc, names, statements)?;
-    let (text, places) = printed(alloc, names, &shorts, statements)?;
+    let ShortNames { spellings, renamed } = short_names(alloc, names, statements)?;
+    let (text, places) = printed(alloc, names, &spellings, statements)?;
     refuse_no_program(alloc, &text, &places)?;
     let lines = line_map(alloc, source, &text, &places)?;
-    let renamed = renamed(alloc, names, shorts)?;
     Ok(Lowered {
         text,
         lines,
@@ -213,14 +249,15 @@ fn written(
 fn begun(alloc: Global, source: &[u8]) -> Result<(Program, Vec<Unit>), LowerError> {
     let mut names = Names::new(alloc);
     let mut next_name = 1;
-    let units = units_alone(alloc, &mut names, source)?;
-    let units = without_block_data(alloc, &mut names, &mut next_name, units)?;
+    let (mut growth, units) = units_alone(alloc, &mut names, source)?;
+    let units = without_blocks(alloc, &mut names, &mut next_name, &mut growth, units)?;
     let signatures = signatures_of(alloc, &names, &units)?;
     let program = Program {
         alloc,
         names,
         next_name,
         signatures,
+        growth,
         constants: IndexMap::new(alloc),
     };
     Ok((program, units))
@@ -231,6 +268,7 @@ fn by_rules(alloc: Global, source: &[u8]) -> Result<Lowered, LowerError>
     requires { length source.now ≤ MOST_BYTES }
     ensures program { IfOk result (λ lowered. IsProgram lowered.text.items) }
     ensures lines { IfOk result (λ lowered. IsLineMap source.now lowered.text.items lowered.lines.items) }
+    ensures names { IfOk result (λ lowered. AreShortNames lowered.renamed.items) }
 {
     let (program, units) = begun(alloc, source)?;
     let (mut program, units) = called(program, units)?;
@@ -251,6 +289,7 @@ pub fn lower(alloc: Global, source: &[u8]) -> Result<Lowered, LowerError>
     ensures same { IsProgram source.now → IfOk result (IsAsItWas source.now) }
     ensures refused { IsProgram source.now → length source.now ≤ MOST_BYTES → IfErr result (λ e. e ≡ NoMemory) }
     ensures lines { IfOk result (λ lowered. IsLineMap source.now lowered.text.items lowered.lines.items) }
+    ensures names { IfOk result (λ lowered. AreShortNames lowered.renamed.items) }
 {
     if source.len() > MOST_BYTES {
         let reason = Reason::Language("a text of more than 4,194,304 bytes");

@@ -26,6 +26,23 @@ impl Place {
     }
 }
 
+/// A rule of lowering by which a program gets more statements.
+#[derive(Clone, Copy, Debug, PartialEq, Eq, Error)]
+pub enum Rule {
+    #[error("END DO and DO WHILE")]
+    Loops,
+    #[error("implied DO")]
+    Lists,
+    #[error("BLOCK DATA")]
+    BlockData,
+    #[error("calls of functions")]
+    Functions,
+    #[error("arguments that are no names")]
+    Arguments,
+    #[error("copies of units for arrays of other bounds")]
+    Bounds,
+}
+
 /// Why a text can't be lowered, as a sentence.
 #[derive(Clone, Copy, Debug, Error)]
 pub enum Reason {
@@ -51,12 +68,20 @@ pub enum Reason {
     NotSupported(&'static str),
     #[error("input and output is PRINT *, WRITE (*,*), READ * or READ (*,*): no FORMAT, no other unit, no END=")]
     Format,
+    #[error("EXIT and CYCLE are no statements of Fortran 77; write GO TO a label")]
+    Leaving,
     #[error("a length other than *4; integers and logicals have 32 bits")]
     Length,
     #[error("the text does not end with END")]
     NoEnd,
     #[error("a statement that needs more than 19 continuation lines")]
     LongStatement,
+    #[error("a statement that needs more than 19 continuation lines once its constants, lists and functions are written out")]
+    LongLowered,
+    #[error("a list that needs more than 19 continuation lines once its implied DO and arrays are written out")]
+    LongList,
+    #[error("a statement function that needs more than 19 continuation lines once it is written out")]
+    LongFunction,
     #[error("END DO with no DO that is open")]
     StrayEndDo,
     #[error("END DO without the label at which its DO ends")]
@@ -93,7 +118,7 @@ pub enum Reason {
     Bounds,
     #[error("an array whose bounds are not known here")]
     OpenBounds,
-    #[error("a line with a number of items that is not known before it runs")]
+    #[error("a line with a number of items that is not known before it runs; write each by a PRINT of its own, in a DO")]
     OpenItems,
     #[error("an implied DO whose variable is in COMMON or EQUIVALENCE; take another variable")]
     SharedVariable,
@@ -121,8 +146,11 @@ pub enum Reason {
     SecondMain,
     #[error("no main program")]
     NoMain,
-    #[error("a program that grows past 4,000 statements")]
+    #[error("a program of more than 4,000 statements")]
     TooMany,
+    /// By the rule that added most of them.
+    #[error("a program that grows past 4,000 statements, most of all by {0}")]
+    Grown(Rule),
     #[error("a unit with the name of another one")]
     UnitTwice,
     /// What it became is no program of the language, by a sentence of docs/LANGUAGE.md.

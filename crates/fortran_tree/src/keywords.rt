@@ -35,7 +35,7 @@ pub(crate) fn after<'a>(characters: &'a [Character], word: &str) -> Option<&'a [
     Some(rest)
 }
 
-const OPENINGS: [(&str, Opening); 46] = [
+const OPENINGS: [(&str, Opening); 48] = [
     ("PROGRAM", Opening::With(Head::Program)),
     ("SUBROUTINE", Opening::With(Head::Subroutine)),
     ("FUNCTION", Opening::With(Head::Function(None))),
@@ -91,6 +91,8 @@ const OPENINGS: [(&str, Opening); 46] = [
     ("ASSIGN", Opening::Refused(Reason::NotSupported("ASSIGN"))),
     ("PAUSE", Opening::Refused(Reason::NotSupported("PAUSE"))),
     ("INCLUDE", Opening::Refused(Reason::NotSupported("INCLUDE"))),
+    ("EXIT", Opening::Refused(Reason::Leaving)),
+    ("CYCLE", Opening::Refused(Reason::Leaving)),
 ];
 
 /// The word with which a statement begins, and the characters after it. A statement that is a word alone has nothing after it.

@@ -14,7 +14,7 @@ mod signs;
 mod statements;
 mod tokens;
 
-pub use error::{LowerError, Place, Reason};
+pub use error::{LowerError, Place, Reason, Rule};
 pub use heads::{Head, Kind};
 pub use name_table::{Name, Names};
 pub use print::Printer;

@@ -1,5 +1,8 @@
 //! Statements as lines in fixed form.
 
+ghost use Rattle.std.specs.Prelude.{◌≡◌, [], OnOk, string_bytes};
+ghost use Rattle.fortran_tree.specs.Lines.{AreMore};
+
 use crate::{Head, LowerError, Name, Names, Node, Place, Reason, Sign, Statement, Token};
 use indexmap::IndexMap;
 use std::alloc::Global;
@@ -19,7 +22,10 @@ pub struct Printer {
 
 impl Printer {
     /// No lines.
-    pub fn new(alloc: Global) -> Printer {
+    pub fn new(alloc: Global) -> Printer
+        ensures text { string_bytes result.text ≡ [] }
+        ensures places { result.places.items ≡ [] }
+    {
         Printer {
             text: String::new(alloc),
             places: Vec::new(alloc),
@@ -27,19 +33,28 @@ impl Printer {
     }
 
     /// The text, and for each of its lines the place of its statement in the source.
-    pub fn finish(self) -> (String, Vec<Place>) {
+    pub fn finish(self) -> (String, Vec<Place>)
+        ensures text { result.0 ≡ self.text }
+        ensures places { result.1 ≡ self.places }
+    {
         let Printer { text, places } = self;
         (text, places)
     }
 
-    /// Prints a statement, with other spellings for some names.
+    /// Prints a statement, with other spellings for some names. Each of its lines has its place.
+    ///
+    /// # Errors
+    ///
+    /// Refused where it needs more than 19 continuation lines (ANSI X3.9-1978, 3.2.3).
     pub fn print(
         &mut self,
         alloc: Global,
         names: &Names,
         spellings: &IndexMap<Name, String>,
         statement: &Statement,
-    ) -> Result<(), LowerError> {
+    ) -> Result<(), LowerError>
+        ensures { OnOk result (AreMore statement.now.place self.old.places.items self.new.places.items) }
+    {
         let mut body = String::new(alloc);
         if let Some(condition) = &statement.guard {
             body.push_str("IF (")?;
@@ -60,11 +75,13 @@ impl Printer {
     }
 
     /// Lays out the characters of a statement on lines.
-    fn lay_out(&mut self, statement: &Statement, body: &str) -> Result<(), LowerError> {
+    fn lay_out(&mut self, statement: &Statement, body: &str) -> Result<(), LowerError>
+        ensures { OnOk result (AreMore statement.now.place self.old.places.items self.new.places.items) }
+    {
         let mut count = 0usize;
         for part in body.as_bytes().chunks(WIDTH) {
             if count == MOST_LINES {
-                return Err(statement.place.refused(Reason::LongStatement));
+                return Err(statement.place.refused(Reason::LongLowered));
             }
             if count == 0 {
                 label(&mut self.text, statement.label)?;

@@ -1,5 +1,8 @@
 //! Signs between names and constants.
 
+ghost use Rattle.std.specs.Prelude.{◌≡◌};
+ghost use Rattle.fortran_tree.specs.Signs.{is_logical as makes_logical};
+
 /// A sign: an operator, or a mark of punctuation that is no bracket.
 #[derive(Clone, Copy, PartialEq, Eq)]
 pub enum Sign {
@@ -51,7 +54,9 @@ impl Sign {
     }
 
     /// Whether an expression with this operator outside of brackets is logical.
-    pub fn is_logical(self) -> bool {
+    pub fn is_logical(self) -> bool
+        ensures { result ≡ makes_logical self }
+    {
         !matches!(
             self,
             Sign::Plus

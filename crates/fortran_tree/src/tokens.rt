@@ -1,8 +1,8 @@
 //! Tokens with their brackets.
 
-ghost use Rattle.std.specs.Prelude.{◌≡◌, IfOk};
+ghost use Rattle.std.specs.Prelude.{◌≡◌, ◌↔◌, ◌∷◌, ◌++◌, [], map, Some, IfOk, IfSome, IsSome, IsTrue};
 ghost use Rattle.fortran_tree.specs.declared.tokens.Node.TheVariants.{Leaf};
-ghost use Rattle.fortran_tree.specs.Nodes.{AreCopies, marks, name_of, number_of, place_of};
+ghost use Rattle.fortran_tree.specs.Nodes.{AreCopies, Mark, is_group, joined, marks, name_of, number_of, place_of, sign_of};
 
 use crate::{LowerError, Name, Place, Sign};
 use std::alloc::Global;
@@ -73,7 +73,10 @@ impl Node {
     }
 
     /// What stands between the brackets that it is.
-    pub fn inside(&self) -> Option<&[Node]> {
+    pub fn inside(&self) -> Option<&[Node]>
+        ensures some { IsSome result ↔ IsTrue (is_group self.now) }
+        ensures inside { IfSome result (λ inside. marks self.now ≡ Mark.opening (place_of self.now) ∷ (joined (map marks inside.now) ++ Mark.closing ∷ [])) }
+    {
         match self {
             Node::Group(inside, _) => Some(inside.as_slice()),
             _ => None,
@@ -89,7 +92,9 @@ pub fn leaf(token: Token, place: Place) -> Node
 }
 
 /// Whether a node is this sign.
-pub fn is_sign(node: &Node, sign: Sign) -> bool {
+pub fn is_sign(node: &Node, sign: Sign) -> bool
+    ensures { IsTrue result ↔ (sign_of node.now ≡ Some sign) }
+{
     match node {
         Node::Leaf(Token::Sign(found), _) => *found == sign,
         _ => false,

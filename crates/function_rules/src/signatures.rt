@@ -1,5 +1,8 @@
 //! The units that can be called.
 
+ghost use Rattle.std.specs.Prelude.{◌≡◌, [], true, IfOk};
+ghost use Rattle.unit_tables.specs.Units.{is_main};
+
 use fortran_tree::{Head, Kind, LowerError, Name, Names, Reason};
 use indexmap::IndexMap;
 use std::alloc::Global;
@@ -42,7 +45,9 @@ pub struct Signature {
 pub type Signatures = IndexMap<Name, Signature>;
 
 /// The dummies of a unit, by its first statement. A main program has none.
-pub fn dummies_of(alloc: Global, unit: &Unit) -> Result<Vec<Name>, LowerError> {
+pub fn dummies_of(alloc: Global, unit: &Unit) -> Result<Vec<Name>, LowerError>
+    ensures { is_main unit.now ≡ true → IfOk result (λ dummies. dummies.items ≡ []) }
+{
     let mut dummies = Vec::new(alloc);
     if unit.is_main() {
         return Ok(dummies);

@@ -55,7 +55,7 @@ impl StatementFunction {
         }
         let value = substituted(alloc, &self.value, &others)?;
         if size_of(&value) > MOST_TOKENS {
-            return Err(place.refused(Reason::LongStatement));
+            return Err(place.refused(Reason::LongFunction));
         }
         Ok(Node::Group(value, place))
     }

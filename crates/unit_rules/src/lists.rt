@@ -16,8 +16,11 @@ use unit_tables::{
     signed, substituted, word,
 };
 
-/// How many items a list has at most when its loops are written out, and how many rounds these loops make.
-const MOST_ITEMS: i64 = 4000;
+/// How many items a list has at most when it is written out: each and its comma take two of the 66 columns of 20 lines.
+const MOST_ITEMS: i64 = 660;
+
+/// How many rounds the loops of a list make at most. Loops without items count.
+const MOST_ROUNDS: i64 = 4000;
 
 /// A list whose items are being written out.
 #[derive(Drop)]
@@ -71,6 +74,7 @@ impl<'a> Writer<'a> {
         let nodes = substituted(self.alloc, nodes, &self.values)?;
         match word(self.alloc, &nodes, place)? {
             Some(value) => Ok(i64::from(value)),
+            None if matches!(self.head, Head::Data) => Err(place.refused(Reason::NotConstant)),
             None => Err(place.refused(Reason::OpenItems)),
         }
     }
@@ -100,8 +104,11 @@ impl<'a> Writer<'a> {
         let Some(count) = span.checked_div(step) else {
             return Err(not_understood);
         };
-        if count > MOST_ITEMS || found.control.len() > 3 {
-            return Err(place.refused(Reason::LongStatement));
+        if found.control.len() > 3 {
+            return Err(not_understood);
+        }
+        if count > MOST_ROUNDS {
+            return Err(place.refused(Reason::LongList));
         }
         Ok(Range {
             variable,
@@ -115,8 +122,8 @@ impl<'a> Writer<'a> {
     /// Begins a round of an implied DO.
     fn begin_round(&mut self, range: &Range, rounds: i64) -> Result<(), LowerError> {
         self.rounds = self.rounds.saturating_add(1);
-        if self.rounds > MOST_ITEMS {
-            return Err(range.place.refused(Reason::LongStatement));
+        if self.rounds > MOST_ROUNDS {
+            return Err(range.place.refused(Reason::LongList));
         }
         let value = range.value(self.alloc, rounds)?;
         self.values.insert(range.variable, value)?;
@@ -158,7 +165,7 @@ impl<'a> Writer<'a> {
     /// Adds an item.
     fn add(&mut self, item: Vec<Node>, place: Place) -> Result<(), LowerError> {
         if self.items.len() >= MOST_ITEMS as usize {
-            return Err(place.refused(Reason::LongStatement));
+            return Err(place.refused(Reason::LongList));
         }
         self.items.push(item)?;
         Ok(())
@@ -168,7 +175,7 @@ impl<'a> Writer<'a> {
     fn elements(&mut self, name: Name, bounds: &[Bound], place: Place) -> Result<(), LowerError> {
         let count = number_of_elements(bounds);
         if count > MOST_ITEMS {
-            return Err(place.refused(Reason::LongStatement));
+            return Err(place.refused(Reason::LongList));
         }
         for number in 0..count {
             let mut rest = number;

@@ -1,2 +1,4 @@
+pub mod Bounds
+pub mod Growth
 pub mod Pieces
 pub mod Units

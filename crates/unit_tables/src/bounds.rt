@@ -1,5 +1,11 @@
 //! The bounds of arrays.
 
+ghost use Rattle.std.specs.Prelude.{◌≡◌, ℤ, pos, ◌*ℤ◌, map, IfOk};
+ghost use Rattle.std.specs.List.{fold};
+ghost use Rattle.std.specs.Int.{saturate_signed, w64};
+ghost use Rattle.unit_tables.specs.Bounds.{bound_nodes, extent_of};
+ghost use Rattle.unit_tables.specs.Pieces.{with_commas};
+
 use crate::pieces::{joined, pieces_of};
 use crate::substitute::{Replacements, substituted};
 use crate::values::{signed, word};
@@ -15,16 +21,21 @@ pub struct Bound {
 
 impl Bound {
     /// How many subscripts there are, 0 where the upper bound lies below the lower one.
-    pub fn extent(self) -> i64 {
-        i64::from(self.high)
-            .saturating_sub(i64::from(self.low))
-            .saturating_add(1)
-            .max(0)
+    pub fn extent(self) -> i64
+        ensures { result ≡ extent_of self }
+    {
+        if self.high < self.low {
+            0
+        } else {
+            i64::from(self.high) - i64::from(self.low) + 1
+        }
     }
 }
 
-/// How many elements an array with these bounds has.
-pub fn number_of_elements(bounds: &[Bound]) -> i64 {
+/// How many elements an array with these bounds has, or the greatest number of 64 bits.
+pub fn number_of_elements(bounds: &[Bound]) -> i64
+    ensures { result ≡ fold (λ count bound. saturate_signed w64 (count *ℤ extent_of bound)) (pos 1) bounds.now }
+{
     let mut count = 1i64;
     for bound in bounds {
         count = count.saturating_mul(bound.extent());
@@ -67,7 +78,9 @@ pub fn agreed(
     passed: &[Bound],
     values: &Replacements,
     place: Place,
-) -> Result<Vec<Bound>, LowerError> {
+) -> Result<Vec<Bound>, LowerError>
+    ensures { IfOk result (λ bounds. bounds.items ≡ passed.now) }
+{
     let pieces = pieces_of(alloc, declared)?;
     if pieces.len() != passed.len() {
         return Err(place.refused(Reason::Bounds));
@@ -89,18 +102,26 @@ pub fn written_bounds(
     alloc: Global,
     bounds: &[Bound],
     place: Place,
-) -> Result<Vec<Node>, LowerError> {
+) -> Result<Vec<Node>, LowerError>
+    ensures { IfOk result (λ nodes. nodes.items ≡ with_commas place (map (bound_nodes place) bounds.now)) }
+{
     let mut pieces = Vec::new(alloc);
     for bound in bounds {
-        let mut high = signed(alloc, bound.high, place)?;
-        if bound.low == 1 {
-            pieces.push(high)?;
-        } else {
-            let mut piece = signed(alloc, bound.low, place)?;
-            piece.push(leaf(Token::Sign(Sign::Colon), place))?;
-            piece.append(&mut high)?;
-            pieces.push(piece)?;
-        }
+        pieces.push(written_bound(alloc, *bound, place)?)?;
     }
     joined(alloc, pieces, place)
+}
+
+/// The bounds of a dimension. A lower one of 1 isn't written.
+fn written_bound(alloc: Global, bound: Bound, place: Place) -> Result<Vec<Node>, LowerError>
+    ensures { IfOk result (λ nodes. nodes.items ≡ bound_nodes place bound) }
+{
+    let mut high = signed(alloc, bound.high, place)?;
+    if bound.low == 1 {
+        return Ok(high);
+    }
+    let mut piece = signed(alloc, bound.low, place)?;
+    piece.push(leaf(Token::Sign(Sign::Colon), place))?;
+    piece.append(&mut high)?;
+    Ok(piece)
 }

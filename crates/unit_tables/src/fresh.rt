@@ -1,5 +1,8 @@
 //! Labels and names that a text doesn't have.
 
+ghost use Rattle.std.specs.Prelude.{◌≡◌, ◌<◌, false, nat_eq, IfOk};
+ghost use Rattle.indexmap.specs.IndexSet.{contains};
+
 use fortran_tree::{Head, LowerError, Name, Names, Node, Place, Reason, Statement, Token};
 use indexmap::IndexSet;
 use std::alloc::Global;
@@ -29,7 +32,12 @@ impl Labels {
     }
 
     /// A label that the unit doesn't have yet.
-    pub fn fresh(&mut self, place: Place) -> Result<u32, LowerError> {
+    pub fn fresh(&mut self, place: Place) -> Result<u32, LowerError>
+        ensures low { IfOk result (λ label. 0 < label) }
+        ensures below { IfOk result (λ label. label < self.old.next) }
+        ensures new { IfOk result (λ label. contains nat_eq self.old.used label ≡ false) }
+        ensures taken { IfOk result (λ label. self.new ≡ record self.old { next = label }) }
+    {
         for label in (1..self.next).rev() {
             if !self.used.contains(&label) {
                 self.next = label;

@@ -5,6 +5,7 @@
 mod bounds;
 mod evaluate;
 mod fresh;
+mod growth;
 mod pieces;
 mod substitute;
 mod symbols;
@@ -13,6 +14,7 @@ mod values;
 
 pub use bounds::{Bound, agreed, bounds_of, number_of_elements, written_bounds};
 pub use fresh::{Labels, fresh_name};
+pub use growth::{Growth, MOST_STATEMENTS};
 pub use pieces::{assignment, joined, name_alone, number_alone, pieces_of};
 pub use substitute::{Replacements, substituted};
 pub use symbols::Symbols;

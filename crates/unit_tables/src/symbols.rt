@@ -1,6 +1,6 @@
 //! What the declarations of a unit say of its names.
 
-ghost use Rattle.std.specs.Prelude.{◌≡◌, is_some};
+ghost use Rattle.std.specs.Prelude.{◌≡◌, true, None, Some, IfSome, OnOk, is_some};
 ghost use Rattle.indexmap.specs.IndexMap.{get};
 ghost use Rattle.indexmap.specs.IndexSet.{contains};
 ghost use Rattle.fortran_tree.specs.Spellings.{same_name};
@@ -144,7 +144,10 @@ impl Symbols {
     }
 
     /// Gives a name a kind.
-    pub fn give(&mut self, name: Name, kind: Kind) -> Result<(), LowerError> {
+    pub fn give(&mut self, name: Name, kind: Kind) -> Result<(), LowerError>
+        ensures kind { OnOk result (get same_name self.new.kinds name ≡ Some kind) }
+        ensures rest { self.new ≡ record self.old { kinds = self.new.kinds } }
+    {
         self.kinds.insert(name, kind)?;
         Ok(())
     }
@@ -157,7 +160,10 @@ impl Symbols {
     }
 
     /// The kind of a name (ANSI X3.9-1978, 4.1.2); none of one that is real, or that IMPLICIT NONE leaves without a kind.
-    pub fn kind(&self, names: &Names, name: Name) -> Option<Kind> {
+    pub fn kind(&self, names: &Names, name: Name) -> Option<Kind>
+        ensures declared { IfSome (get same_name self.now.kinds name) (λ kind. result ≡ Some kind) }
+        ensures explicit { get same_name self.now.kinds name ≡ None → self.now.is_explicit ≡ true → result ≡ None }
+    {
         if let Some(kind) = self.kinds.get(&name) {
             return Some(*kind);
         }

@@ -2,7 +2,7 @@
 
 ghost use Rattle.std.specs.Prelude.{◌≡◌, ◌++◌, length, not, slice_get, IfOk};
 ghost use Rattle.std.specs.List.{filter};
-ghost use Rattle.unit_tables.specs.Units.{all_statements, head_at, is_main as has_main};
+ghost use Rattle.unit_tables.specs.Units.{all_statements, head_at, is_main as has_main, place_at};
 
 use fortran_tree::{Head, LowerError, Place, Reason, Statement};
 use std::alloc::Global;
@@ -25,7 +25,9 @@ impl Unit {
     }
 
     /// Where its first statement stands.
-    pub fn place(&self) -> Place {
+    pub fn place(&self) -> Place
+        ensures { result ≡ place_at (slice_get self.now.statements.items 0) }
+    {
         match self.statements.first() {
             Some(first) => first.place,
             None => Place { line: 0, column: 0 },
