@@ -1,10 +1,12 @@
 //! Pictures of flow graphs and of dataflow graphs, for Graphviz.
 #![tactic(auto)]
 
-mod clusters;
+mod boxes;
 mod flow_dot;
 mod graph_dot;
-mod places;
+mod groups;
+mod numbered;
+mod regions;
 mod wires_dot;
 
 pub use flow_dot::write_flow;

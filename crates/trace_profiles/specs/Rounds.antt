@@ -10,6 +10,8 @@ use Rattle.printed_graphs.specs.declared.dataflow.Value.{Value}
 use Rattle.printed_graphs.specs.declared.dataflow.Work.{Work}
 use Rattle.printed_graphs.specs.declared.dataflow.Work.TheVariants as work
 use Rattle.printed_graphs.specs.Nodes.{piece_of}
+use Rattle.trace_profiles.specs.declared.loads.Loads.{Loads}
+use Rattle.trace_profiles.specs.declared.loads.Loads.TheVariants as loads
 
 -- ---- firings and their rounds, the newest first
 
@@ -57,6 +59,15 @@ abbrev pub is_decision : Option Node → Bool
 is_decision (Some (node.Operation piece number work lines)) = is_decide work
 is_decision _ = false
 
+-- a load of those that fire in any order
+abbrev pub is_free : Loads → Work → Bool
+is_free loads.InAnyOrder work.Load = true
+is_free _ _ = false
+
+abbrev pub is_free_node : Loads → Option Node → Bool
+is_free_node order (Some (node.Operation piece number work lines)) = is_free order work
+is_free_node order _ = false
+
 abbrev pub is_switch : Option Node → Bool
 is_switch (Some (node.Switch piece line)) = true
 is_switch _ = false
@@ -91,6 +102,10 @@ is_value_of giver (operand.Known z) = false
 abbrev pub moves : PrintedGraph → (line node : ℕ) → Bool
 moves g line k = nat_lt line (length g.lines.items) && list_any (λ l. l == line) (lines_of (slice_get g.nodes.items k))
 
+-- It moves the line, and a node that is free waits for that: such a node doesn't wait for others that are.
+abbrev pub holds_up : PrintedGraph → Loads → (free : Bool) → (line node : ℕ) → Bool
+holds_up g order free line k = if free && is_free_node order (slice_get g.nodes.items k) then false else moves g line k
+
 -- it takes the value of a node of the graph, and so empties its place
 abbrev pub takes : PrintedGraph → (giver node : ℕ) → Bool
 takes g giver k = nat_lt giver (length g.nodes.items) && list_any (is_value_of giver) (operands_of g k)
@@ -108,9 +123,9 @@ switches g run k = nat_lt run (length g.nodes.items) && (is_switch (slice_get g.
 
 -- ---- the round of a firing
 
--- the last firings that moved lines
-abbrev pub newest_moves : PrintedGraph → List Round → List ℕ → ℕ
-newest_moves g rs lines = greatest (map (λ line. last_round (moves g line) rs) lines)
+-- the latest firings that moved lines, for a node that waits for them
+abbrev pub newest_moves : PrintedGraph → Loads → List Round → (free : Bool) → List ℕ → ℕ
+newest_moves g order rs free lines = greatest (map (λ line. latest_round (holds_up g order free line) rs) lines)
 
 -- the last firing that gave an operand
 abbrev pub given_round : PrintedGraph → List Round → Operand → ℕ
@@ -118,12 +133,14 @@ given_round g rs (operand.From giver) = last_round (gives g giver) rs
 given_round g rs (operand.Known z) = 0
 
 -- the latest of the firings for which one of a node waits
-abbrev pub waits_by : PrintedGraph → List Round → (k : ℕ) → Option Node → ℕ
-waits_by g rs k None = 0
-waits_by g rs k (Some (node.Operation piece number work lines)) = max (max (max (last_round (takes g k) rs) (newest_moves g rs lines.items)) (greatest (map (given_round g rs) (operands_of g k)))) (if is_decide work then latest_round (switches g (run_of g k)) rs else 0)
-waits_by g rs k (Some (node.Switch piece line)) = max (last_round (moves g line) rs) (last_round (decides g (run_of g k)) rs)
-waits_by g rs k (Some (node.Merge piece line)) = last_round (moves g line) rs
+abbrev pub waits_by : PrintedGraph → Loads → List Round → (k : ℕ) → Option Node → ℕ
+waits_by g order rs k None = 0
+waits_by g order rs k (Some (node.Operation piece number work lines)) =
+    max (max (max (last_round (takes g k) rs) (newest_moves g order rs (is_free order work) lines.items)) (greatest (map (given_round g rs) (operands_of g k))))
+    (if is_decide work then latest_round (switches g (run_of g k)) rs else 0)
+waits_by g order rs k (Some (node.Switch piece line)) = max (latest_round (moves g line) rs) (last_round (decides g (run_of g k)) rs)
+waits_by g order rs k (Some (node.Merge piece line)) = latest_round (moves g line) rs
 
 -- A firing comes a round after them. Rounds that are too many for 32 bits count as the last one.
-abbrev pub next_round : PrintedGraph → List Round → (k : ℕ) → ℕ
-next_round g rs k = min (suc (waits_by g rs k (slice_get g.nodes.items k))) (2 ^ 32 - 1)
+abbrev pub next_round : PrintedGraph → Loads → List Round → (k : ℕ) → ℕ
+next_round g order rs k = min (suc (waits_by g order rs k (slice_get g.nodes.items k))) (2 ^ 32 - 1)

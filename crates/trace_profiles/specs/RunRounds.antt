@@ -7,11 +7,12 @@ use Rattle.printed_graphs.specs.declared.trace.Firing.{Firing}
 use Rattle.printed_graphs.specs.declared.trace.NodeName.{NodeName}
 use Rattle.printed_graphs.specs.declared.trace.NodeName.TheVariants as name
 use Rattle.trace_profiles.specs.Rounds.{Round, next_round, round_of}
+use Rattle.trace_profiles.specs.declared.loads.Loads.{Loads}
 
 -- the rounds of firings after others, of which the newest stands first
-abbrev pub rounds_from : PrintedGraph → List Round → List Firing → List ℕ
-rounds_from g rs [] = []
-rounds_from g rs (f ∷ fs) = next_round g rs f.node ∷ rounds_from g (round_of f.node (next_round g rs f.node) ∷ rs) fs
+abbrev pub rounds_from : PrintedGraph → Loads → List Round → List Firing → List ℕ
+rounds_from g order rs [] = []
+rounds_from g order rs (f ∷ fs) = let round = next_round g order rs f.node in round ∷ rounds_from g order (round_of f.node round ∷ rs) fs
 
 abbrev pub name_of : Node → NodeName
 name_of (node.Operation piece number work lines) = name.Operation piece number

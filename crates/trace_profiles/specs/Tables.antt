@@ -1,16 +1,20 @@
 -- Tables of the last rounds, by what firings did.
-use Rattle.std.specs.Prelude.{◌≡◌, ◌<◌, ℕ, zero, suc, ◌==◌, ◌&&◌, Bool, if◌then◌else◌, List, [], length, map, max, nat_lt, slice_get, slice_index, Option, Some, None}
+use Rattle.std.specs.Prelude.{◌≡◌, ◌<◌, ℕ, zero, suc, ◌==◌, ◌&&◌, Bool, true, if◌then◌else◌, List, [], length, map, max, nat_lt, slice_get, slice_index, Option, Some, None}
 use Rattle.std.specs.List.{list_any}
 use Rattle.printed_graphs.specs.declared.dataflow.Operand.{Operand}
 use Rattle.printed_graphs.specs.declared.dataflow.PrintedGraph.{PrintedGraph}
 use Rattle.printed_graphs.specs.declared.dataflow.Value.{Value}
 use Rattle.printed_graphs.specs.declared.dataflow.Operand.TheVariants as operand
-use Rattle.trace_profiles.specs.Rounds.{Round, is_value_of, last_round, latest_round, moves, takes, gives, decides, switches, operands_in, runs_from}
+use Rattle.trace_profiles.specs.Rounds.{Round, holds_up, is_value_of, last_round, latest_round, moves, takes, gives, decides, switches, operands_in, runs_from}
 use Rattle.trace_profiles.specs.declared.rounds.Rounds.{Rounds}
 
 -- the rounds of the last firings that did this to each
 abbrev pub IsTable : List ℕ → (test : ℕ → ℕ → Bool) → List Round → Type 0
 IsTable numbers test rs = (i : ℕ) → slice_index numbers i ≡ last_round (test i) rs
+
+-- the rounds of the latest firings that did this to each
+abbrev pub IsLatest : List ℕ → (test : ℕ → ℕ → Bool) → List Round → Type 0
+IsLatest numbers test rs = (i : ℕ) → slice_index numbers i ≡ latest_round (test i) rs
 
 -- the number stands at those that are marked, and elsewhere what stood there
 abbrev pub IsMarked : (old new : List ℕ) → (marked : ℕ → Bool) → (n : ℕ) → Type 0
@@ -48,15 +52,17 @@ pub record KnowsNodes (g : PrintedGraph) (places run_numbers : List ℕ) : Type 
 pub record Tells (r : Rounds) (rs : List Round) : Type 0 where
   pub knows : KnowsNodes r.graph.now r.operands.items r.runs.items
   pub count_lines : length r.moved.items ≡ length r.graph.now.lines.items
+  pub count_settled : length r.settled.items ≡ length r.graph.now.lines.items
   pub count_fired : length r.fired.items ≡ length r.graph.now.nodes.items
   pub count_emptied : length r.emptied.items ≡ length r.graph.now.nodes.items
   pub count_decided : length r.decided.items ≡ length r.graph.now.nodes.items
   pub count_switched : length r.switched.items ≡ length r.graph.now.nodes.items
-  pub moved : IsTable r.moved.items (moves r.graph.now) rs
+  pub moved : IsLatest r.moved.items (moves r.graph.now) rs
+  pub settled : IsLatest r.settled.items (holds_up r.graph.now r.loads true) rs
   pub fired : IsTable r.fired.items (gives r.graph.now) rs
   pub emptied : IsTable r.emptied.items (takes r.graph.now) rs
   pub decided : IsTable r.decided.items (decides r.graph.now) rs
-  pub switched : (i : ℕ) → slice_index r.switched.items i ≡ latest_round (switches r.graph.now i) rs
+  pub switched : IsLatest r.switched.items (switches r.graph.now) rs
 
 -- a number is raised where it stands
 abbrev pub IsRaised : (old new : List ℕ) → (marked : ℕ → Bool) → (n : ℕ) → Type 0

@@ -1,7 +1,12 @@
 //! A table of rounds with bars.
 
-use df_io::Sink;
-use view_output::{Fault, Output};
+ghost use Rattle.std.specs.Prelude.{◌≡◌, ◌<◌, Some, drop, replicate, take};
+ghost use Rattle.std.specs.Fmt.{WritesOnOk};
+ghost use Rattle.trace_profiles.specs.Profiles.{all_of, bar_of, line_text, row_text, rows_text};
+ghost use Rattle.trace_profiles.specs.Rounds.{greatest as spec_greatest};
+ghost use Rattle.trace_profiles.specs.Rows.{TellsRow};
+
+use std::fmt;
 
 // The most rows of a table.
 const ROWS: usize = 40;
@@ -9,60 +14,134 @@ const ROWS: usize = 40;
 // The longest bar.
 const LONGEST: u64 = 50;
 
-/// Writes how wide rounds are, in 40 rows at most: the first and the last round of each row, how many nodes could have
+/// How wide rounds are, in 40 rows at most: the first and the last round of each row, how many nodes could have
 /// fired in them, and the mean width of them as a bar.
-pub fn write_table<K: Sink + Drop>(widths: &[u32], output: &mut Output<K>) -> Result<(), Fault> {
-    let in_row = (widths.len() / ROWS).saturating_add(1);
-    let scale = greatest(widths);
-    let mut first = 0usize;
-    for _ in 0..ROWS {
-        let end = first.saturating_add(in_row).min(widths.len());
-        if first >= end {
-            return Ok(());
+#[derive(Clone, Copy)]
+pub struct Table<'a>(pub &'a [u32]);
+
+impl fmt::Display for Table<'_> {
+    ghost output = { λ t. Some (rows_text t.0.now 40) };
+
+    #[tactic(auto, using(crate::proofs::MoreRows::one_row_more))]
+    fn fmt<W: fmt::Write>(&self, f: &mut fmt::Formatter<W>) -> fmt::Result {
+        for number in 0..ROWS {
+            put_row(self.0, number, f)?;
         }
-        write_row(first, &widths[first..end], scale, output)?;
-        first = end;
+        Ok(())
     }
-    Ok(())
 }
 
-// The greatest width.
-fn greatest(widths: &[u32]) -> u64 {
-    let mut most = 0;
+// Writes the row with this number, if it has any rounds.
+fn put_row<W: fmt::Write>(widths: &[u32], number: usize, f: &mut fmt::Formatter<W>) -> fmt::Result
+    requires { number < 40 }
+    ensures { WritesOnOk W.write_str_gives f.old result (row_text widths.now number) f.new }
+{
+    match row_of(widths, number) {
+        Some(row) => write!(f, "{row}"),
+        None => Ok(()),
+    }
+}
+
+// A row: its first and its last round, how many nodes fire in them, and how long its bar is.
+#[derive(Clone, Copy)]
+struct Row {
+    first: usize,
+    last: usize,
+    all: u64,
+    bar: u64,
+}
+
+impl fmt::Display for Row {
+    ghost output = { λ r. Some (line_text r.first r.last r.all r.bar) };
+
+    #[tactic(auto, unfolding(crate::specs::Profiles::line_text))]
+    fn fmt<W: fmt::Write>(&self, f: &mut fmt::Formatter<W>) -> fmt::Result {
+        let Row {
+            first,
+            last,
+            all,
+            bar,
+        } = *self;
+        let bar = Bar(bar);
+        writeln!(f, "{first}-{last} {all} {bar}")
+    }
+}
+
+// A bar of this length.
+#[derive(Clone, Copy)]
+struct Bar(u64);
+
+impl fmt::Display for Bar {
+    ghost output = { λ b. Some (replicate b.0 35) };
+
+    fn fmt<W: fmt::Write>(&self, f: &mut fmt::Formatter<W>) -> fmt::Result {
+        for done in 0..self.0 {
+            f.write_str("#")?;
+        }
+        Ok(())
+    }
+}
+
+// The row with this number, counted from 0, if it has any rounds.
+#[tactic(auto, using(crate::proofs::MoreRows::few_before))]
+fn row_of(widths: &[u32], number: usize) -> Option<Row>
+    requires { number < 40 }
+    ensures { TellsRow widths.now number result }
+{
+    let size = widths.len() / ROWS + 1;
+    let before = number * size;
+    let part = part_of(widths, before, size);
+    if part.is_empty() {
+        return None;
+    }
+    let all = sum_of(part);
+    Some(Row {
+        first: before + 1,
+        last: before + part.len(),
+        all,
+        bar: bar_length(all, part.len() as u64, u64::from(greatest(widths))),
+    })
+}
+
+// The widths of `size` rounds, before which so many stand.
+fn part_of(widths: &[u32], before: usize, size: usize) -> &[u32]
+    ensures { result.now ≡ take size (drop before widths.now) }
+{
+    match widths.get(before..) {
+        Some(rest) => rest.get(..size).unwrap_or(rest),
+        None => &[],
+    }
+}
+
+/// The greatest width.
+pub fn greatest(widths: &[u32]) -> u32
+    ensures { result ≡ spec_greatest widths.now }
+{
+    let mut most = 0u32;
     for width in widths {
         most = most.max(*width);
     }
-    u64::from(most)
+    most
 }
 
-// The row of the rounds from `first` on, counted from 0 there and from 1 in the row.
-fn write_row<K: Sink + Drop>(
-    first: usize,
-    widths: &[u32],
-    scale: u64,
-    output: &mut Output<K>,
-) -> Result<(), Fault> {
+// How many nodes fire in all of these rounds.
+fn sum_of(widths: &[u32]) -> u64
+    ensures { result ≡ all_of widths.now }
+{
     let mut all = 0u64;
     for width in widths {
         all = all.saturating_add(u64::from(*width));
     }
-    output.number((first as u64).saturating_add(1))?;
-    output.text("-")?;
-    output.number((first as u64).saturating_add(widths.len() as u64))?;
-    output.text(" ")?;
-    output.number(all)?;
-    output.text(" ")?;
-    for _ in 0..bar(all, widths.len() as u64, scale) {
-        output.text("#")?;
-    }
-    output.text("\n")
+    all
 }
 
-// How long the bar is of `all` in so many rounds, where the longest bar stands for `scale`, unless that is short.
-fn bar(all: u64, rounds: u64, scale: u64) -> u64 {
-    if rounds == 0 || scale == 0 {
+// How long the bar is of `all` in so many rounds, where the longest bar stands for `widest`, unless that is short.
+fn bar_length(all: u64, rounds: u64, widest: u64) -> u64
+    ensures { result ≡ bar_of all rounds widest }
+{
+    if rounds == 0 || widest == 0 {
         return 0;
     }
-    let longest = scale.min(LONGEST);
-    (all.saturating_mul(longest) / rounds / scale).min(LONGEST)
+    let longest = widest.min(LONGEST);
+    (all.saturating_mul(longest) / rounds / widest).min(LONGEST)
 }

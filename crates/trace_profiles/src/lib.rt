@@ -2,9 +2,11 @@
 #![tactic(auto)]
 
 mod bars;
+mod loads;
 mod profile;
 mod rounds;
 mod tables;
 
+pub use loads::Loads;
 pub use profile::{lines_before_trace, rounds_of, write_profile};
 pub use rounds::Rounds;

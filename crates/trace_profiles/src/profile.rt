@@ -1,14 +1,19 @@
 //! How wide a program is: how many nodes of a trace could have fired in each round.
 
-ghost use Rattle.std.specs.Prelude.{◌≡◌, ◌↔◌, ℕ, [], All, Err, IfOk, IsTrue, Some};
+ghost use Rattle.std.specs.Prelude.{◌≡◌, ◌↔◌, ◌-◌, ◌^◌, ◌==◌, ℕ, [], All, Err, IfOk, IsTrue, OnOk, Some, length, min, option_map, position, string_bytes};
 ghost use Rattle.view_output.specs.declared.fault.Fault.TheVariants as fault;
 ghost use Rattle.trace_profiles.specs.RunRounds.{Fires, TellsFiring, name_of, rounds_from};
+ghost use Rattle.trace_profiles.specs.Profiles.{decimals_text, flow_lines as spec_flow_lines, graph_lines as spec_graph_lines, hundredths, lines_before, profile_text, sums_text, widest_round as spec_widest_round, widths_of, widths_text};
+ghost use Rattle.trace_profiles.specs.Widths.{IsCounted};
+ghost use Rattle.view_output.specs.Told.{Adds, told};
 
-use crate::bars::write_table;
+use crate::bars::{Table, greatest};
+use crate::loads::Loads;
 use crate::rounds::Rounds;
 use df_io::Sink;
 use printed_graphs::{Firing, Node, NodeName, PrintedFlow, PrintedGraph, PrintedTrace};
 use std::alloc::Global;
+use std::fmt;
 use view_output::{Fault, Output};
 
 /// Writes the profile of a trace.
@@ -17,13 +22,34 @@ pub fn write_profile<K: Sink + Drop>(
     flow: Option<&PrintedFlow>,
     graph: &PrintedGraph,
     trace: &PrintedTrace,
+    loads: Loads,
     output: &mut Output<K>,
-) -> Result<(), Fault> {
+) -> Result<(), Fault>
+    ensures { OnOk result (Adds (told K.got output.old) (told K.got output.new) (profile_text graph.now loads trace.now.firings.items)) }
+{
     let before = lines_before_trace(flow, graph);
-    let rounds = rounds_of(alloc, graph, trace.firings.as_slice(), before)?;
+    let text = text_of(alloc, graph, loads, trace.firings.as_slice(), before)?;
+    output.text(text.as_str())
+}
+
+// The profile of these firings.
+fn text_of(
+    alloc: Global,
+    graph: &PrintedGraph,
+    loads: Loads,
+    firings: &[Firing],
+    before: u64,
+) -> Result<String, Fault>
+    ensures { IfOk result (λ text. string_bytes text ≡ profile_text graph.now loads firings.now) }
+{
+    let rounds = rounds_of(alloc, graph, loads, firings, before)?;
     let widths = widths(alloc, rounds.as_slice())?;
-    write_sums(widths.as_slice(), trace.firings.len() as u64, output)?;
-    write_table(widths.as_slice(), output)
+    let profile = Profile {
+        widths: widths.as_slice(),
+        firings: firings.len(),
+    };
+    let text = format!(in alloc; "{profile}")?;
+    Ok(text)
 }
 
 /// The earliest round in which each firing could have come, counted from 1. So many lines of the text stand before the trace.
@@ -34,14 +60,15 @@ pub fn write_profile<K: Sink + Drop>(
 pub fn rounds_of(
     alloc: Global,
     graph: &PrintedGraph,
+    loads: Loads,
     firings: &[Firing],
     before: u64,
 ) -> Result<Vec<u32>, Fault>
-    ensures rounds { IfOk result (λ all. all.items ≡ rounds_from graph.now [] firings.now) }
+    ensures rounds { IfOk result (λ all. all.items ≡ rounds_from graph.now loads [] firings.now) }
     ensures nodes { IfOk result (λ all. All (Fires graph.now.nodes.items) firings.now) }
     ensures firing { (line : ℕ) → result ≡ Err (fault.Firing line) → TellsFiring graph.now.nodes.items firings.now before line }
 {
-    let mut rounds = Rounds::new(alloc, graph)?;
+    let mut rounds = Rounds::new(alloc, graph, loads)?;
     let mut all = Vec::new(alloc);
     let mut line = before;
     for firing in firings {
@@ -55,23 +82,27 @@ pub fn rounds_of(
 }
 
 // How many firings came in each round.
-fn widths(alloc: Global, rounds: &[u32]) -> Result<Vec<u32>, Fault> {
-    let mut widths = Vec::new(alloc);
+fn widths(alloc: Global, rounds: &[u32]) -> Result<Vec<u32>, Fault>
+    ensures { IfOk result (λ widths. widths.items ≡ widths_of rounds.now) }
+{
+    let mut widths = vec![in alloc; 0u32; greatest(rounds) as usize]?;
     for round in rounds {
-        count(&mut widths, *round)?;
+        count(&mut widths, *round);
     }
     Ok(widths)
 }
 
-// Counts a firing in a round, which may be the next one after those that are counted.
-fn count(widths: &mut Vec<u32>, round: u32) -> Result<(), Fault> {
-    let place = (round as usize).saturating_sub(1);
-    if place < widths.len() {
-        widths[place] = widths[place].saturating_add(1);
-    } else {
-        widths.push(1)?;
+// Counts a firing in a round.
+fn count(widths: &mut Vec<u32>, round: u32)
+    ensures count { length widths.new.items ≡ length widths.old.items }
+    ensures counted { IsCounted widths.old.items widths.new.items round }
+{
+    let Some(place) = (round as usize).checked_sub(1) else {
+        return;
+    };
+    if let Some(width) = widths.get_mut(place) {
+        *width = width.saturating_add(1);
     }
-    Ok(())
 }
 
 // Whether the graph has the node that fired.
@@ -111,12 +142,16 @@ fn has_name(node: &Node, name: NodeName) -> bool
 }
 
 /// How many lines of a text with these graphs stand before its trace.
-pub fn lines_before_trace(flow: Option<&PrintedFlow>, graph: &PrintedGraph) -> u64 {
+pub fn lines_before_trace(flow: Option<&PrintedFlow>, graph: &PrintedGraph) -> u64
+    ensures { result ≡ lines_before (option_map (λ f. f.now) flow.entry) graph.now }
+{
     flow_lines(flow).saturating_add(graph_lines(graph))
 }
 
 // How many lines the text of the flow graph has.
-fn flow_lines(flow: Option<&PrintedFlow>) -> u64 {
+fn flow_lines(flow: Option<&PrintedFlow>) -> u64
+    ensures { result ≡ min (spec_flow_lines (option_map (λ f. f.now) flow.entry)) (2 ^ 64 - 1) }
+{
     match flow {
         Some(flow) => 1u64
             .saturating_add(flow.pieces.len() as u64)
@@ -127,7 +162,9 @@ fn flow_lines(flow: Option<&PrintedFlow>) -> u64 {
 }
 
 // How many lines the text of the dataflow graph has.
-fn graph_lines(graph: &PrintedGraph) -> u64 {
+fn graph_lines(graph: &PrintedGraph) -> u64
+    ensures { result ≡ min (spec_graph_lines graph.now) (2 ^ 64 - 1) }
+{
     1u64.saturating_add(graph.lines.len() as u64)
         .saturating_add(graph.nodes.len() as u64)
         .saturating_add(graph.values.len() as u64)
@@ -135,47 +172,88 @@ fn graph_lines(graph: &PrintedGraph) -> u64 {
         .saturating_add(graph.bypasses.len() as u64)
 }
 
-// The numbers of firings and rounds, the mean width, and the widest round.
-fn write_sums<K: Sink + Drop>(
-    widths: &[u32],
-    firings: u64,
-    output: &mut Output<K>,
-) -> Result<(), Fault> {
-    let rounds = widths.len() as u64;
-    output.text("FIRINGS ")?;
-    output.number(firings)?;
-    output.text("\nROUNDS ")?;
-    output.number(rounds)?;
-    output.text("\nMEAN ")?;
-    write_ratio(firings, rounds, output)?;
-    let (round, width) = widest(widths);
-    output.text("\nWIDEST ")?;
-    output.number(u64::from(width))?;
-    output.text(" ROUND ")?;
-    output.number(round)?;
-    output.text("\n")
+// The widths of rounds, and how many nodes fire in all of them.
+#[derive(Clone, Copy)]
+struct Profile<'a> {
+    widths: &'a [u32],
+    firings: usize,
 }
 
-// A ratio with two digits after the point, cut off; that to 0 is 0.
-fn write_ratio<K: Sink + Drop>(n: u64, of: u64, output: &mut Output<K>) -> Result<(), Fault> {
-    let hundredths = if of == 0 {
-        0
-    } else {
-        n.saturating_mul(100) / of
-    };
-    output.number(hundredths / 100)?;
-    output.text(".")?;
-    output.number(hundredths / 10 % 10)?;
-    output.number(hundredths % 10)
-}
+impl fmt::Display for Profile<'_> {
+    ghost output = { λ p. Some (widths_text p.widths.now p.firings) };
 
-// The first of the widest rounds, counted from 1, and its width.
-fn widest(widths: &[u32]) -> (u64, u32) {
-    let mut best = (0, 0);
-    for (k, width) in widths.iter().enumerate() {
-        if *width > best.1 {
-            best = ((k as u64).saturating_add(1), *width);
-        }
+    #[tactic(auto, unfolding(crate::specs::Profiles::widths_text))]
+    fn fmt<W: fmt::Write>(&self, f: &mut fmt::Formatter<W>) -> fmt::Result {
+        let sums = Sums(*self);
+        let table = Table(self.widths);
+        write!(f, "{sums}{table}")
     }
-    best
+}
+
+// The numbers of firings and rounds, the mean width, and the widest round.
+#[derive(Clone, Copy)]
+struct Sums<'a>(Profile<'a>);
+
+impl fmt::Display for Sums<'_> {
+    ghost output = { λ s. Some (sums_text s.0.widths.now s.0.firings) };
+
+    #[tactic(auto, unfolding(crate::specs::Profiles::sums_text))]
+    fn fmt<W: fmt::Write>(&self, f: &mut fmt::Formatter<W>) -> fmt::Result {
+        let Profile { widths, firings } = self.0;
+        let rounds = widths.len();
+        let mean = Hundredths(hundredths_of(firings as u64, rounds as u64));
+        let width = greatest(widths);
+        let round = widest_round(widths);
+        writeln!(
+            f,
+            "FIRINGS {firings}\nROUNDS {rounds}\nMEAN {mean}\nWIDEST {width} ROUND {round}"
+        )
+    }
+}
+
+// Hundredths, as a number with two digits after the point.
+#[derive(Clone, Copy)]
+struct Hundredths(u64);
+
+impl fmt::Display for Hundredths {
+    ghost output = { λ h. Some (decimals_text h.0) };
+
+    #[tactic(auto, unfolding(crate::specs::Profiles::decimals_text))]
+    fn fmt<W: fmt::Write>(&self, f: &mut fmt::Formatter<W>) -> fmt::Result {
+        let whole = self.0 / 100;
+        let tenths = self.0 / 10 % 10;
+        let rest = self.0 % 10;
+        write!(f, "{whole}.{tenths}{rest}")
+    }
+}
+
+// The hundredths of a ratio, cut off; that to 0 has none.
+fn hundredths_of(n: u64, of: u64) -> u64
+    ensures { result ≡ hundredths n of }
+{
+    if of == 0 {
+        return 0;
+    }
+    n.saturating_mul(100) / of
+}
+
+// The first of the widest rounds, counted from 1, or 0 where no node fires.
+fn widest_round(widths: &[u32]) -> usize
+    ensures { result ≡ spec_widest_round widths.now }
+{
+    let most = greatest(widths);
+    if most == 0 {
+        return 0;
+    }
+    match place_of(widths, most) {
+        Some(k) => k + 1,
+        None => 0,
+    }
+}
+
+// The place of the first round that is so wide.
+fn place_of(widths: &[u32], most: u32) -> Option<usize>
+    ensures { result ≡ position (λ w. w == most) widths.now }
+{
+    widths.iter().position(|width| *width == most)
 }

@@ -1,13 +1,15 @@
 //! The earliest round in which each node of a trace could have fired.
 //!
-//! A firing comes a round after the latest of those on which it depends: the last firings that moved the lines which it
+//! A firing comes a round after the latest of those on which it depends: the latest firings that moved the lines which it
 //! takes, those that gave its operands, the one that emptied the place of its value, and, for a decision, those of
-//! the switches that took what the last decision of the piece left.
+//! the switches that took what the last decision of the piece left. Loads that fire in any order don't depend on one
+//! another.
 
-ghost use Rattle.std.specs.Prelude.{◌≡◌, ◌<◌, ◌^◌, ℕ, None, IfOk, List, [], ◌∷◌, length, map, slice_get, slice_index, if◌then◌else◌, ◌&&◌, ◌==◌};
-ghost use Rattle.trace_profiles.specs.Rounds.{Round, greatest, is_decide, is_value_of, next_round, operands_in, round_of, run_after, runs_from, waits_by};
-ghost use Rattle.trace_profiles.specs.Tables.{IsMarked, Tells, given_in, operands_by, is_giver, is_line, rounds_at};
+ghost use Rattle.std.specs.Prelude.{◌≡◌, ◌<◌, ◌^◌, ℕ, None, IfOk, List, [], ◌∷◌, length, map, not, slice_get, slice_index, if◌then◌else◌, ◌&&◌, ◌==◌};
+ghost use Rattle.trace_profiles.specs.Rounds.{Round, greatest, is_decide, is_free as spec_is_free, is_value_of, next_round, operands_in, round_of, run_after, runs_from, waits_by};
+ghost use Rattle.trace_profiles.specs.Tables.{IsMarked, IsRaised, Tells, given_in, operands_by, is_giver, is_line, rounds_at};
 
+use crate::loads::Loads;
 use crate::tables::{at, greater, place_at, put, put_place, raise};
 use printed_graphs::{Node, Operand, PrintedGraph, Value, Work};
 use std::alloc::{AllocError, Global};
@@ -16,12 +18,15 @@ use std::alloc::{AllocError, Global};
 #[derive(Drop)]
 pub struct Rounds<'a> {
     graph: &'a PrintedGraph,
+    loads: Loads,
     // For each node the place of its operands in the list of values, counted from 1, or 0 where it has none.
     operands: Vec<usize>,
     // For each node the number of its run of nodes of one piece.
     runs: Vec<usize>,
-    // For each line the last firing that moved it.
+    // For each line the latest firing that moved it.
     moved: Vec<u32>,
+    // For each line the latest of them that isn't a load which fires in any order.
+    settled: Vec<u32>,
     // For each operation its last firing.
     fired: Vec<u32>,
     // For each node the last firing that took its value.
@@ -34,16 +39,23 @@ pub struct Rounds<'a> {
 
 impl<'a> Rounds<'a> {
     /// Nothing has fired yet.
-    pub fn new(alloc: Global, graph: &'a PrintedGraph) -> Result<Rounds<'a>, AllocError>
+    pub fn new(
+        alloc: Global,
+        graph: &'a PrintedGraph,
+        loads: Loads,
+    ) -> Result<Rounds<'a>, AllocError>
         ensures graph { IfOk result (λ r. r.graph.now ≡ graph.now) }
+        ensures loads { IfOk result (λ r. r.loads ≡ loads) }
         ensures none { IfOk result (λ r. Tells r []) }
     {
         let nodes = graph.nodes.as_slice();
         Ok(Rounds {
             graph,
+            loads,
             operands: places_of_operands(alloc, nodes.len(), graph.values.as_slice())?,
             runs: runs_of_nodes(alloc, nodes)?,
             moved: vec![in alloc; 0u32; graph.lines.len()]?,
+            settled: vec![in alloc; 0u32; graph.lines.len()]?,
             fired: vec![in alloc; 0u32; nodes.len()]?,
             emptied: vec![in alloc; 0u32; nodes.len()]?,
             decided: vec![in alloc; 0u32; nodes.len()]?,
@@ -55,7 +67,8 @@ impl<'a> Rounds<'a> {
     pub fn next(&mut self, node: u32) -> u32
         requires { node < length self.old.graph.now.nodes.items }
         ensures graph { self.new.graph ≡ self.old.graph }
-        ensures round { (rs : List Round) → Tells self.old rs → result ≡ next_round self.old.graph.now rs node }
+        ensures loads { self.new.loads ≡ self.old.loads }
+        ensures round { (rs : List Round) → Tells self.old rs → result ≡ next_round self.old.graph.now self.old.loads rs node }
         ensures tells { (rs : List Round) → Tells self.old rs → Tells self.new (round_of node result ∷ rs) }
     {
         let round = self.waits(node).saturating_add(1);
@@ -66,12 +79,12 @@ impl<'a> Rounds<'a> {
     // The latest of the firings for which one of this node waits.
     fn waits(&self, node: u32) -> u32
         requires { node < length self.now.graph.now.nodes.items }
-        ensures { (rs : List Round) → Tells self.now rs → result ≡ waits_by self.now.graph.now rs node (slice_get self.now.graph.now.nodes.items node) }
+        ensures { (rs : List Round) → Tells self.now rs → result ≡ waits_by self.now.graph.now self.now.loads rs node (slice_get self.now.graph.now.nodes.items node) }
     {
         let k = node as usize;
         match &self.graph.nodes[k] {
             Node::Operation { work, lines, .. } => {
-                let moved = newest_at(&self.moved, lines);
+                let moved = newest_at(self.moved_for(*work), lines);
                 let given = newest_given(&self.fired, self.operands_of(k));
                 let emptied = at(&self.emptied, k);
                 greater(
@@ -84,6 +97,17 @@ impl<'a> Rounds<'a> {
                 greater(moved, at(&self.decided, place_at(&self.runs, k)))
             }
             Node::Merge { line, .. } => at(&self.moved, *line as usize),
+        }
+    }
+
+    // The latest firings on lines, as an operation waits for them.
+    fn moved_for(&self, work: Work) -> &[u32]
+        ensures { result.now ≡ (if spec_is_free self.now.loads work then self.now.settled.items else self.now.moved.items) }
+    {
+        if is_free(self.loads, work) {
+            self.settled.as_slice()
+        } else {
+            self.moved.as_slice()
         }
     }
 
@@ -115,26 +139,40 @@ impl<'a> Rounds<'a> {
     fn mark(&mut self, node: u32, round: u32)
         requires { node < length self.old.graph.now.nodes.items }
         ensures graph { self.new.graph ≡ self.old.graph }
+        ensures loads { self.new.loads ≡ self.old.loads }
         ensures tells { (rs : List Round) → Tells self.old rs → Tells self.new (round_of node round ∷ rs) }
     {
         let k = node as usize;
         match &self.graph.nodes[k] {
             Node::Operation { work, lines, .. } => {
                 let operands = self.operands_of(k);
-                put_at(&mut self.moved, lines, round);
+                let free = is_free(self.loads, *work);
+                raise_at(&mut self.moved, lines, round);
+                settle(&mut self.settled, free, lines, round);
                 put(&mut self.fired, k, round);
                 put_given(&mut self.emptied, operands, round);
                 let run = place_at(&self.runs, k);
                 decide(&mut self.decided, *work, run, round);
             }
             Node::Switch { line, .. } => {
-                put(&mut self.moved, *line as usize, round);
+                raise(&mut self.moved, *line as usize, round);
+                raise(&mut self.settled, *line as usize, round);
                 let run = place_at(&self.runs, k);
                 raise(&mut self.switched, run, round);
             }
-            Node::Merge { line, .. } => put(&mut self.moved, *line as usize, round),
+            Node::Merge { line, .. } => {
+                raise(&mut self.moved, *line as usize, round);
+                raise(&mut self.settled, *line as usize, round);
+            }
         }
     }
+}
+
+// Whether an operation is a load that fires in any order.
+fn is_free(loads: Loads, work: Work) -> bool
+    ensures { result ≡ spec_is_free loads work }
+{
+    matches!((loads, work), (Loads::InAnyOrder, Work::Load))
 }
 
 // Puts a number to a run where its decision fires.
@@ -179,13 +217,23 @@ fn given_at(numbers: &[u32], operand: Operand) -> u32
     }
 }
 
-// Puts a number to these places.
-fn put_at(numbers: &mut Vec<u32>, places: &[u32], n: u32)
-    ensures marked { IsMarked numbers.old.items numbers.new.items (is_line places.now) n }
+// Raises the numbers of lines, unless a load that fires in any order moved them.
+fn settle(settled: &mut Vec<u32>, free: bool, lines: &[u32], round: u32)
+    ensures raised { IsRaised settled.old.items settled.new.items (λ i. not free && is_line lines.now i) round }
+    ensures count { length settled.new.items ≡ length settled.old.items }
+{
+    if !free {
+        raise_at(settled, lines, round);
+    }
+}
+
+// Raises the numbers at these places.
+fn raise_at(numbers: &mut Vec<u32>, places: &[u32], n: u32)
+    ensures raised { IsRaised numbers.old.items numbers.new.items (is_line places.now) n }
     ensures count { length numbers.new.items ≡ length numbers.old.items }
 {
     for place in places {
-        put(numbers, *place as usize, n);
+        raise(numbers, *place as usize, n);
     }
 }
 

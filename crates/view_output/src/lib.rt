@@ -9,4 +9,4 @@ mod shown_lines;
 pub use fault::{Fault, status};
 pub use lines::line_of;
 pub use output::Output;
-pub use shown_lines::Lines;
+pub use shown_lines::{Lines, holds};

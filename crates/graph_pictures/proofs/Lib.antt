@@ -1,0 +1,6 @@
+mod Backwards
+mod NumberedTexts
+mod Pictures
+mod Places
+mod Steps
+mod Sweeps

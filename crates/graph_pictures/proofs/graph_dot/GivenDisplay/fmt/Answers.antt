@@ -1,0 +1,8 @@
+use Rattle.std.proofs.Output.{has_written_of_eq}
+use mathlib.Core.List.{append_assoc}
+use Rattle.graph_pictures.specs.GraphDot.{given_dot}
+use Rattle.graph_pictures.proofs.graph_dot.GivenDisplay.fmt.Goals as goal
+
+pub returns-clause-writes : goal.returns-clause-writes
+unfolding given_dot
+returns-clause-writes g c = λ plain ok. has_written_of_eq _ _ _ _ _ (simp append_assoc) (c.writeln.ensures.writes plain ok)
