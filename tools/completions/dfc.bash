@@ -24,7 +24,8 @@ _dfc_view() {
     else
         COMPREPLY=($(compgen -f -- "$word"))
         case $command in
-        rounds | page | profile | json | run) options='--wide limit= picks= data= checked forks' ;;
+        rounds | page | profile | run) options='--wide limit= picks= data= checked forks' ;;
+        json) options='--trace --wide limit= picks= data= checked forks' ;;
         dot) options='--regions --lines --wide checked' ;;
         deps) options='--json --wide checked' ;;
         check | names) options='--wide' ;;

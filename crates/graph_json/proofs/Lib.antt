@@ -1,2 +1,3 @@
 mod NodeLists
 mod Rows
+pub mod FiringRows

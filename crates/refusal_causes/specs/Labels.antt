@@ -4,8 +4,8 @@ use Rattle.std.specs.List.{list_any}
 use Rattle.f77_tree.specs.declared.statements.Labelled.{Labelled}
 use Rattle.f77_tree.specs.declared.statements.Stmt.{Stmt}
 use Rattle.f77_tree.specs.declared.statements.Stmt.TheVariants.{Program, Implicit, ImplicitNone, TypeOf, Dimension, Common, Equivalence, Init, ElseIf, Else, Sub}
-use Rattle.refusal_causes.specs.declared.cause.Cause.{Cause}
-use Rattle.refusal_causes.specs.declared.cause.Cause.TheVariants.{LabelTwice, NoLabel}
+use Rattle.refusal_causes.specs.declared.label_cause.LabelCause.{LabelCause}
+use Rattle.refusal_causes.specs.declared.label_cause.LabelCause.TheVariants.{LabelTwice, NoLabel}
 
 -- a label on a statement can be named: it is executable, and neither ELSE nor ELSE IF
 abbrev pub can_be_named : Stmt → Bool
@@ -27,7 +27,6 @@ abbrev pub has_label : List Labelled → (label : ℕ) → Bool
 has_label unit label = list_any (λ s. s.label == label && can_be_named s.stmt) unit
 
 -- what is told of a label in a unit, at a line
-abbrev pub IsOfLabels : List Labelled → (line : ℕ) → Cause → Type 0
+abbrev pub IsOfLabels : List Labelled → (line : ℕ) → LabelCause → Type 0
 IsOfLabels unit line (LabelTwice label above) = list_any (λ s. nat_lt s.line line && s.label == label && s.line == above) unit ≡ true
 IsOfLabels unit line (NoLabel label) = has_label unit label ≡ false
-IsOfLabels unit line _ = ⊥

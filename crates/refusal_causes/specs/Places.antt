@@ -4,7 +4,7 @@ use Rattle.std.specs.List.{find}
 use Rattle.f77_tree.specs.declared.statements.Labelled.{Labelled}
 use Rattle.f77_tree.specs.declared.statements.Stmt.{Stmt}
 use Rattle.f77_tree.specs.declared.statements.Stmt.TheVariants.{Program, Implicit, ImplicitNone, TypeOf, Dimension, Common, Equivalence, Init, ElseIf, Else, EndIf, Sub, Back, End}
-use Rattle.refusal_causes.specs.Units.{begins_at, first_line, inner, unit_with}
+use Rattle.unit_statements.specs.Units.{begins_at, first_line, inner, unit_with}
 
 -- ---- what is wrong
 

@@ -5,12 +5,12 @@ ghost use Rattle.declared_names.specs.Described.{described};
 ghost use Rattle.declared_names.specs.KeptDeclarations.{said_by};
 ghost use Rattle.refusal_causes.specs.Declarations.{IsOfBlock, IsOfCall, IsOfName, IsOther};
 
-use crate::cause::{Cause, spelt};
-use crate::units::{dummies, first_line, inner, statement_at, unit_named, unit_with};
+use crate::call_cause::{BlockCause, CallCause, NameCause};
 use declared_names::{AppearingNames, NameDeclarations};
 use df_sequence::NoMemory;
 use f77_tree::{Labelled, Name, Stmt};
 use std::alloc::Global;
+use unit_statements::{dummies, first_line, inner, spelt, statement_at, unit_named, unit_with};
 
 /// Why the CALL at a line, or the SUBROUTINE at a line, doesn't fit: the first argument that differs from its dummy in the
 /// order number, kind, bounds, or the first dummy that stands twice or in COMMON, EQUIVALENCE or DATA. None where the line has
@@ -23,7 +23,7 @@ pub fn cause_of_call(
     alloc: Global,
     stmts: &[Labelled],
     line: u32,
-) -> Result<Option<Cause<'_>>, NoMemory>
+) -> Result<Option<CallCause<'_>>, NoMemory>
     ensures { IfOk result (λ found. IfSome found IsOfCall) }
 {
     let Some(s) = statement_at(stmts, line) else {
@@ -47,13 +47,13 @@ fn cause_of_arguments<'a>(
     unit: &'a [Labelled],
     arguments: &'a [Name],
     callee: &'a [Labelled],
-) -> Result<Option<Cause<'a>>, NoMemory>
+) -> Result<Option<CallCause<'a>>, NoMemory>
     ensures so { IfOk result (λ found. IfSome found (IsOther (described unit.now) (described callee.now))) }
     ensures call { IfOk result (λ found. IfSome found IsOfCall) }
 {
     let dummies = dummies(callee);
     if arguments.len() != dummies.len() {
-        return Ok(Some(Cause::ArgumentCount {
+        return Ok(Some(CallCause::ArgumentCount {
             name: spelt(name),
             arguments: arguments.len(),
             dummies: dummies.len(),
@@ -75,22 +75,22 @@ fn cause_of_argument<'a>(
     name: &'a Name,
     there: &NameDeclarations,
     dummy: &'a Name,
-) -> Option<Cause<'a>>
+) -> Option<CallCause<'a>>
     ensures so { IfSome result (IsOther (said_by here.now) (said_by there.now)) }
     ensures call { IfSome result IsOfCall }
 {
     let argument = spelt(name);
     let Some(kind) = here.kind(name) else {
-        return Some(Cause::RealArgument { argument });
+        return Some(CallCause::RealArgument { argument });
     };
     if there.kind(dummy) != Some(kind) {
-        return Some(Cause::ArgumentKind {
+        return Some(CallCause::ArgumentKind {
             argument,
             dummy: spelt(dummy),
         });
     }
     if here.dims(name) != there.dims(dummy) {
-        return Some(Cause::ArgumentBounds {
+        return Some(CallCause::ArgumentBounds {
             argument,
             dummy: spelt(dummy),
         });
@@ -103,7 +103,7 @@ fn cause_of_dummies<'a>(
     alloc: Global,
     unit: &'a [Labelled],
     names: &'a [Name],
-) -> Result<Option<Cause<'a>>, NoMemory>
+) -> Result<Option<CallCause<'a>>, NoMemory>
     ensures { IfOk result (λ found. IfSome found IsOfCall) }
 {
     for (k, name) in names.iter().enumerate() {
@@ -111,7 +111,7 @@ fn cause_of_dummies<'a>(
             .iter()
             .any(|above| above.as_bytes() == name.as_bytes())
         {
-            return Ok(Some(Cause::DummyTwice { dummy: spelt(name) }));
+            return Ok(Some(CallCause::DummyTwice { dummy: spelt(name) }));
         }
     }
     let declared = NameDeclarations::of(alloc, unit)?;
@@ -120,7 +120,7 @@ fn cause_of_dummies<'a>(
             let mut stored = AppearingNames::new(alloc);
             stored.note_stmt(alloc, &declared, &s.stmt)?;
             if let Some(name) = names.iter().find(|name| stored.has(name)) {
-                return Ok(Some(Cause::DummyStored {
+                return Ok(Some(CallCause::DummyStored {
                     dummy: spelt(name),
                     line: s.line,
                 }));
@@ -140,7 +140,7 @@ pub fn cause_of_block(
     alloc: Global,
     stmts: &[Labelled],
     line: u32,
-) -> Result<Option<Cause<'_>>, NoMemory>
+) -> Result<Option<BlockCause<'_>>, NoMemory>
     ensures { IfOk result (λ found. IfSome found IsOfBlock) }
 {
     let unit = unit_with(stmts, line);
@@ -187,7 +187,7 @@ fn cause_between<'a>(
     block: &'a Option<Name>,
     unit: &'a [Labelled],
     first: &'a [Labelled],
-) -> Result<Option<Cause<'a>>, NoMemory>
+) -> Result<Option<BlockCause<'a>>, NoMemory>
     ensures { IfOk result (λ found. IfSome found IsOfBlock) }
 {
     let names = names_of_block(alloc, unit, block)?;
@@ -195,7 +195,7 @@ fn cause_between<'a>(
     let block = block_name(block);
     let line = first_line(first);
     if names.len() != others.len() {
-        return Ok(Some(Cause::BlockLength {
+        return Ok(Some(BlockCause::BlockLength {
             block,
             line,
             here: names.len(),
@@ -206,7 +206,7 @@ fn cause_between<'a>(
     let there = NameDeclarations::of(alloc, first)?;
     for (name, other) in names.iter().zip(others.iter()) {
         if !is_alike(&here, name, &there, other) {
-            return Ok(Some(Cause::BlockMember {
+            return Ok(Some(BlockCause::BlockMember {
                 block,
                 line,
                 here: spelt(name),
@@ -253,16 +253,16 @@ fn names_of_block<'a>(
 
 /// What is wrong with the name of the subroutine that the statement at a line declares or calls: a SUBROUTINE above has it, none
 /// of the text has it, or the subroutine calls itself. None where the statement is neither SUBROUTINE nor such a CALL.
-pub fn cause_of_name(stmts: &[Labelled], line: u32) -> Option<Cause<'_>>
+pub fn cause_of_name(stmts: &[Labelled], line: u32) -> Option<NameCause<'_>>
     ensures { IfSome result (IsOfName stmts.now line) }
 {
     match inner(&statement_at(stmts, line)?.stmt) {
         Stmt::CallTo(name, _) => cause_of_lack(stmts, name),
         Stmt::Sub(name, _) => {
             if first_line(unit_named(stmts, name)) == line {
-                Some(Cause::Recursion { name: spelt(name) })
+                Some(NameCause::Recursion { name: spelt(name) })
             } else {
-                Some(Cause::SubroutineTwice { name: spelt(name) })
+                Some(NameCause::SubroutineTwice { name: spelt(name) })
             }
         }
         _ => None,
@@ -270,11 +270,11 @@ pub fn cause_of_name(stmts: &[Labelled], line: u32) -> Option<Cause<'_>>
 }
 
 // What is told of a name that no SUBROUTINE has.
-fn cause_of_lack<'a>(stmts: &[Labelled], name: &'a Name) -> Option<Cause<'a>>
+fn cause_of_lack<'a>(stmts: &[Labelled], name: &'a Name) -> Option<NameCause<'a>>
     ensures { IfSome result (λ cause. (line : ℕ) → IsOfName stmts.now line cause) }
 {
     if unit_named(stmts, name).is_empty() {
-        Some(Cause::NoSubroutine { name: spelt(name) })
+        Some(NameCause::NoSubroutine { name: spelt(name) })
     } else {
         None
     }

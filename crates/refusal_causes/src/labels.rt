@@ -2,32 +2,32 @@
 
 ghost use Rattle.std.specs.Prelude.{◌≡◌, false, IfSome};
 ghost use Rattle.refusal_causes.specs.Labels.{IsOfLabels, can_be_named as can_be_named_of, has_label as has_label_in};
-ghost use Rattle.refusal_causes.specs.Units.{unit_with as unit_with_in};
+ghost use Rattle.unit_statements.specs.Units.{unit_with as unit_with_in};
 
-use crate::cause::Cause;
-use crate::units::{inner, statement_at, unit_with};
+use crate::label_cause::LabelCause;
 use f77_tree::{Labelled, Stmt};
+use unit_statements::{inner, statement_at, unit_with};
 
 /// The line of the first statement above a line, in its unit, that has the label of the statement at the line.
-pub fn label_above(stmts: &[Labelled], line: u32) -> Option<Cause<'_>>
+pub fn label_above(stmts: &[Labelled], line: u32) -> Option<LabelCause>
     ensures { IfSome result (IsOfLabels (unit_with_in line stmts.now) line) }
 {
     let unit = unit_with(stmts, line);
     let label = statement_at(unit, line)?.label;
     let above = unit.iter().find(|s| s.line < line && s.label == label)?;
-    Some(Cause::LabelTwice {
+    Some(LabelCause::LabelTwice {
         label,
         line: above.line,
     })
 }
 
 /// The first label that the statement at a line names and that no executable statement of its unit but ELSE and ELSE IF has.
-pub fn cause_of_label(stmts: &[Labelled], line: u32) -> Option<Cause<'_>>
+pub fn cause_of_label(stmts: &[Labelled], line: u32) -> Option<LabelCause>
     ensures { IfSome result (IsOfLabels (unit_with_in line stmts.now) line) }
 {
     let unit = unit_with(stmts, line);
     let label = missing_label(unit, inner(&statement_at(unit, line)?.stmt))?;
-    Some(Cause::NoLabel { label })
+    Some(LabelCause::NoLabel { label })
 }
 
 // The first label that a statement names and the unit lacks.

@@ -1,20 +1,16 @@
 //! What is wrong with a text that is no program, in a sentence, and what to write instead, in another one.
 #![tactic(auto)]
 
-mod advice;
+mod call_cause;
 mod calls;
 mod cause;
-mod forms;
-mod kinds;
+mod label_cause;
 mod labels;
 mod places;
-mod shapes;
-mod units;
 
-pub use advice::Advice;
+pub use call_cause::{BlockCause, CallCause, NameCause};
 pub use calls::{cause_of_block, cause_of_call, cause_of_name};
 pub use cause::Cause;
-pub use forms::{TABLES, Tables, advice_on_form};
-pub use kinds::cause_of_kind;
+pub use label_cause::LabelCause;
 pub use labels::{cause_of_label, label_above};
 pub use places::{advice_on_layout, advice_on_nesting, advice_on_order};

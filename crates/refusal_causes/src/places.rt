@@ -3,9 +3,9 @@
 ghost use Rattle.std.specs.Prelude.{◌≡◌};
 ghost use Rattle.refusal_causes.specs.Places.{advice_by_place as advice_by_place_of, advice_inside as advice_inside_of, advice_on_block as advice_on_block_of, advice_on_layout as advice_on_layout_of, advice_on_nesting as advice_on_nesting_of, advice_on_order as advice_on_order_of, advice_on_storage as advice_on_storage_of, follows_end as follows_end_of};
 
-use crate::advice::Advice;
-use crate::units::{first_line, inner, statement_at, unit_with};
 use f77_tree::{Labelled, Stmt};
+use form_advice::Advice;
+use unit_statements::{first_line, inner, statement_at, unit_with};
 
 const SUBROUTINE_FIRST: Advice = Advice {
     wrong: "a SUBROUTINE stands before the main program, or inside a unit",

@@ -7,11 +7,11 @@ use Rattle.f77_source.specs.declared.source_end.Code.TheVariants.{NoForm}
 use Rattle.f77_source.specs.declared.source_end.Refusal.{Refusal}
 use Rattle.f77_tree.specs.declared.statements.Labelled.{Labelled}
 use Rattle.refusal_causes.specs.declared.cause.Cause.{Cause}
-use Rattle.refusal_reports.specs.declared.report.Place.{Place}
 use Rattle.refusal_reports.specs.Advices.{advice_by_code}
-use Rattle.refusal_reports.specs.Lines.{line_of}
 use Rattle.refusal_reports.specs.Refusals.{IsByCode, IsCauseOf, IsReportOf, column_at, written}
 use Rattle.refusal_reports.specs.Statements.{parsed, raws_of}
+use Rattle.shown_lines.specs.Lines.{line_of}
+use Rattle.shown_lines.specs.declared.places.Place.{Place}
 
 pub by_code : (line : List ℕ) (stmts : List Labelled) (number : ℕ) (wrong : List ℕ) (code : Code) → wrong ≡ advice_by_code line stmts number code → IsByCode line stmts number wrong code
 by_code line stmts number wrong NoForm is = tt

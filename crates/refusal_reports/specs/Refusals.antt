@@ -6,17 +6,19 @@ use Rattle.f77_source.specs.declared.source_end.Code.{Code}
 use Rattle.f77_source.specs.declared.source_end.Code.TheVariants.{BadByte, BadLabelField, NoForm, BadCall, BadBlock, RealName, TypeWrong, SubTwice, NoSub, Recursion, LabelTwice, LabelMissing}
 use Rattle.f77_tree.specs.declared.statements.Labelled.{Labelled}
 use Rattle.f77_source.specs.declared.source_end.Refusal.{Refusal}
-use Rattle.refusal_causes.specs.Declarations.{IsDeclared, IsOfBlock, IsOfCall, IsOfName}
+use Rattle.kind_causes.specs.Declarations.{IsDeclared}
+use Rattle.refusal_causes.specs.Declarations.{IsOfBlock, IsOfCall, IsOfName}
 use Rattle.refusal_causes.specs.Labels.{IsOfLabels}
-use Rattle.refusal_causes.specs.Units.{unit_with}
+use Rattle.unit_statements.specs.Units.{unit_with}
 use Rattle.refusal_causes.specs.declared.cause.Cause.{Cause}
-use Rattle.refusal_causes.specs.declared.cause.Cause.TheVariants.{Rule}
+use Rattle.refusal_causes.specs.declared.cause.Cause.TheVariants as causes
 use Rattle.refusal_reports.specs.Advices.{advice_by_code}
 use Rattle.refusal_reports.specs.Statements.{parsed, raws_of}
-use Rattle.refusal_reports.specs.declared.report.Place.{Place}
 use Rattle.refusal_reports.specs.Columns.{column_of_byte, column_of_label}
-use Rattle.refusal_reports.specs.Lines.{caret, line_of, shown}
-use Rattle.refusal_reports.specs.Report.{lines_text, place_text, told_text}
+use Rattle.refusal_reports.specs.Report.{told_text}
+use Rattle.shown_lines.specs.Lines.{caret, line_of, shown}
+use Rattle.shown_lines.specs.Places.{lines_text, place_text}
+use Rattle.shown_lines.specs.declared.places.Place.{Place}
 
 -- the column that a refusal of a line is for
 abbrev pub column_at : Code → (line : List ℕ) → Option ℕ
@@ -34,20 +36,40 @@ IsByCode line stmts number wrong NoForm = Unit {0}
 IsByCode line stmts number wrong code = wrong ≡ advice_by_code line stmts number code
 
 abbrev pub IsOfCode : (line : List ℕ) → List Labelled → Refusal → Cause → Type 0
-IsOfCode line stmts refusal (Rule advice) = IsByCode line stmts refusal.line advice.wrong.now refusal.code
+IsOfCode line stmts refusal (causes.Rule advice) = IsByCode line stmts refusal.line advice.wrong.now refusal.code
 IsOfCode line stmts refusal _ = ⊥
+
+abbrev pub IsName : List Labelled → (number : ℕ) → Cause → Type 0
+IsName stmts number (causes.Name c) = IsOfName stmts number c
+IsName stmts number _ = ⊥
+
+abbrev pub IsCall : Cause → Type 0
+IsCall (causes.Call c) = IsOfCall c
+IsCall _ = ⊥
+
+abbrev pub IsBlock : Cause → Type 0
+IsBlock (causes.Block c) = IsOfBlock c
+IsBlock _ = ⊥
+
+abbrev pub IsKind : List Labelled → (number : ℕ) → Cause → Type 0
+IsKind stmts number (causes.Kind c) = IsDeclared (described (unit_with number stmts)) c
+IsKind stmts number _ = ⊥
+
+abbrev pub IsLabel : List Labelled → (number : ℕ) → Cause → Type 0
+IsLabel stmts number (causes.Label c) = IsOfLabels (unit_with number stmts) number c
+IsLabel stmts number _ = ⊥
 
 -- what is told with the names of the text is so
 abbrev pub IsFound : List Labelled → (number : ℕ) → Code → Cause → Type 0
-IsFound stmts number BadCall cause = IsOfCall cause
-IsFound stmts number BadBlock cause = IsOfBlock cause
-IsFound stmts number RealName cause = IsDeclared (described (unit_with number stmts)) cause
-IsFound stmts number TypeWrong cause = IsDeclared (described (unit_with number stmts)) cause
-IsFound stmts number SubTwice cause = IsOfName stmts number cause
-IsFound stmts number NoSub cause = IsOfName stmts number cause
-IsFound stmts number Recursion cause = IsOfName stmts number cause
-IsFound stmts number LabelTwice cause = IsOfLabels (unit_with number stmts) number cause
-IsFound stmts number LabelMissing cause = IsOfLabels (unit_with number stmts) number cause
+IsFound stmts number BadCall cause = IsCall cause
+IsFound stmts number BadBlock cause = IsBlock cause
+IsFound stmts number RealName cause = IsKind stmts number cause
+IsFound stmts number TypeWrong cause = IsKind stmts number cause
+IsFound stmts number SubTwice cause = IsName stmts number cause
+IsFound stmts number NoSub cause = IsName stmts number cause
+IsFound stmts number Recursion cause = IsName stmts number cause
+IsFound stmts number LabelTwice cause = IsLabel stmts number cause
+IsFound stmts number LabelMissing cause = IsLabel stmts number cause
 IsFound stmts number _ cause = ⊥
 
 -- what is told of a refusal: with names that are so, or by the tables

@@ -6,7 +6,8 @@ ghost use Rattle.refusal_reports.specs.Advices.{advice_at as advice_at_of, advic
 use crate::columns::{column_of_byte, column_of_label};
 use f77_source::{Code, Refusal};
 use f77_tree::Labelled;
-use refusal_causes::{Advice, advice_on_layout, advice_on_nesting, advice_on_order};
+use form_advice::Advice;
+use refusal_causes::{advice_on_layout, advice_on_nesting, advice_on_order};
 
 const TAB: Advice = Advice {
     wrong: "a tab stands in a statement",

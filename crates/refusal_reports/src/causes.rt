@@ -9,9 +9,10 @@ use df_sequence::NoMemory;
 use f77_source::{Code, Refusal};
 use f77_tree::Labelled;
 use fixed_form::RawStmt;
+use form_advice::{Advice, TABLES, advice_on_form};
+use kind_causes::cause_of_kind;
 use refusal_causes::{
-    Advice, Cause, TABLES, advice_on_form, cause_of_block, cause_of_call, cause_of_kind,
-    cause_of_label, cause_of_name, label_above,
+    Cause, cause_of_block, cause_of_call, cause_of_label, cause_of_name, label_above,
 };
 use std::alloc::Global;
 
@@ -44,12 +45,30 @@ fn cause_with_names<'a>(
     ensures { IfOk result (λ found. IfSome found (IsFound stmts.now refusal.line refusal.code)) }
 {
     match refusal.code {
-        Code::BadCall => cause_of_call(alloc, stmts, refusal.line),
-        Code::BadBlock => cause_of_block(alloc, stmts, refusal.line),
-        Code::RealName | Code::TypeWrong => cause_of_kind(alloc, stmts, refusal.line),
-        Code::SubTwice | Code::NoSub | Code::Recursion => Ok(cause_of_name(stmts, refusal.line)),
-        Code::LabelTwice => Ok(label_above(stmts, refusal.line)),
-        Code::LabelMissing => Ok(cause_of_label(stmts, refusal.line)),
+        Code::BadCall => match cause_of_call(alloc, stmts, refusal.line)? {
+            Some(cause) => Ok(Some(Cause::Call(cause))),
+            None => Ok(None),
+        },
+        Code::BadBlock => match cause_of_block(alloc, stmts, refusal.line)? {
+            Some(cause) => Ok(Some(Cause::Block(cause))),
+            None => Ok(None),
+        },
+        Code::RealName | Code::TypeWrong => match cause_of_kind(alloc, stmts, refusal.line)? {
+            Some(cause) => Ok(Some(Cause::Kind(cause))),
+            None => Ok(None),
+        },
+        Code::SubTwice | Code::NoSub | Code::Recursion => match cause_of_name(stmts, refusal.line) {
+            Some(cause) => Ok(Some(Cause::Name(cause))),
+            None => Ok(None),
+        },
+        Code::LabelTwice => match label_above(stmts, refusal.line) {
+            Some(cause) => Ok(Some(Cause::Label(cause))),
+            None => Ok(None),
+        },
+        Code::LabelMissing => match cause_of_label(stmts, refusal.line) {
+            Some(cause) => Ok(Some(Cause::Label(cause))),
+            None => Ok(None),
+        },
         _ => Ok(None),
     }
 }

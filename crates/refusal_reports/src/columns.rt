@@ -5,7 +5,7 @@ ghost use Rattle.std.specs.Char.{is_ascii_digit};
 ghost use Rattle.std.specs.List.{position};
 ghost use Rattle.refusal_reports.specs.Columns.{column_of_byte as column_of_byte_in, column_of_label as column_of_label_in};
 
-use crate::lines::columns_to;
+use shown_lines::columns_to;
 
 /// The first of columns 1 to 72 with a byte that isn't from 32 to 126.
 pub(crate) fn column_of_byte(line: &[u8]) -> Option<u32>

@@ -5,7 +5,6 @@
 mod advices;
 mod causes;
 mod columns;
-mod lines;
 mod refusals;
 mod report;
 mod statements;

@@ -5,12 +5,12 @@ ghost use Rattle.refusal_reports.specs.Refusals.{IsReportOf, column_at as column
 
 use crate::causes::cause_of;
 use crate::columns::{column_of_byte, column_of_label};
-use crate::lines::{caret, line_of, shown};
-use crate::report::{Place, Report, Shown};
+use crate::report::Report;
 use crate::statements::{parsed, raw_statements};
 use df_sequence::NoMemory;
 use f77_source::{Code, Refusal};
 use refusal_causes::Cause;
+use shown_lines::{Place, Shown, caret, line_of, shown};
 use std::alloc::Global;
 
 /// The report of a refusal: `FILE:LINE:COLUMN: error: WHAT IS WRONG [CODE]`, the line, a caret under the column, and what to

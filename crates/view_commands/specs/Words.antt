@@ -25,6 +25,7 @@ pub data Shown : Type 0 where
   Regions : Shown
   Dot : (lines : Option (List ℕ)) → Shown
   Json : Shown
+  JsonTrace : Shown
   Profile : Shown
   Dependences : Shown
   DependencesJson : Shown
@@ -60,6 +61,7 @@ task_meant task.Page = Page
 task_meant task.Regions = Regions
 task_meant (task.Dot lines) = Dot (lines_meant lines)
 task_meant task.Json = Json
+task_meant task.JsonTrace = JsonTrace
 task_meant task.Profile = Profile
 task_meant task.Dependences = Dependences
 task_meant task.DependencesJson = DependencesJson
@@ -117,6 +119,9 @@ pair_of [] = None
 pair_of (first ∷ []) = None
 pair_of (first ∷ second ∷ words) = option_and_then (λ m. option_and_then (λ n. shown_of (Independent m n) words) (number_on second)) (number_on first)
 
+abbrev pub json_of : List (List ℕ) → Option Asked
+json_of words = let trace = option_on (codes "--trace") words in if trace.0 then shown_of JsonTrace trace.1 else shown_of Json trace.1
+
 abbrev pub dependences_of : List (List ℕ) → Option Asked
 dependences_of words = let json = option_on (codes "--json") words in if json.0 then shown_of DependencesJson json.1 else shown_of Dependences json.1
 
@@ -154,7 +159,7 @@ abbrev pub asked_of : Command → List (List ℕ) → Option Asked
 asked_of command.Chart words = shown_of Chart words
 asked_of command.Rounds words = shown_of Rounds words
 asked_of command.Page words = shown_of Page words
-asked_of command.Json words = shown_of Json words
+asked_of command.Json words = json_of words
 asked_of command.Profile words = shown_of Profile words
 asked_of command.Dot words = picture_of words
 asked_of command.Deps words = dependences_of words

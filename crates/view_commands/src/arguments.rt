@@ -76,6 +76,8 @@ pub enum Task {
     Dot(Lines),
     /// All of it, as JSON.
     Json,
+    /// The trace as lines of JSON, one for each firing.
+    JsonTrace,
     /// The profile of the trace.
     Profile,
     /// The dependences between statements.
@@ -143,9 +145,12 @@ fn asked_of(alloc: Global, command: Command, words: &[String]) -> Result<Job<'_>
         Command::Chart => show(Task::Chart, words),
         Command::Rounds => show(Task::Rounds, words),
         Command::Page => show(Task::Page, words),
-        Command::Json => show(Task::Json, words),
         Command::Profile => show(Task::Profile, words),
         Command::Dot => picture_of(alloc, words),
+        Command::Json => match after_option("--trace", words) {
+            (true, words) => show(Task::JsonTrace, words),
+            (false, words) => show(Task::Json, words),
+        },
         Command::Deps => match after_option("--json", words) {
             (true, words) => show(Task::DependencesJson, words),
             (false, words) => show(Task::Dependences, words),

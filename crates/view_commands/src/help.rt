@@ -105,25 +105,27 @@ regions as nested boxes. --lines: of the token lines these alone.
 ";
 
 const JSON: &str = "\
-usage: dfc_view json [[--wide] FILE [WORDS]]
+usage: dfc_view json [--trace] [[--wide] FILE [WORDS]]
 
 Writes all that is known of the program, as JSON: of FILE both graphs, and where
-WORDS tell a run also its trace.
+WORDS tell a run also its trace. --trace: of a run a line for each firing, which
+is an object with the node, the line of its statement and the round, and one for
+the end.
 ";
 
 const PROFILE: &str = "\
 usage: dfc_view profile [[--wide] FILE [WORDS]]
 
-Tells how many nodes fire in each round of a run. Of `forks` it tells loads of
-one variable one after another, though they don't wait for one another.
+Tells how many nodes fire in each round of a run.
 ";
 
 const CHECK: &str = "\
 usage: dfc_view check [--wide] FILE..
 
 Tells what is wrong with each file: the place, the line, a sentence that says
-what is wrong, and one that says what to write instead. The status is 1 where
-anything is.
+what is wrong, and one that says what to write instead. Of a program it tells
+each statement that traps whenever it is executed, since constants make that
+sure. The status is 1 where anything is wrong.
 ";
 
 const NAMES: &str = "\

@@ -1,5 +1,5 @@
 -- What is so of the text that was read is so of the text that is known.
-use Rattle.std.proofs.Common.{◌≡◌, ℕ, Bool, true, false, List, Option, None, Some, Result, Ok, Err, IfOk, IfSome, inl, inr, ap, subst}
+use Rattle.std.proofs.Common.{◌≡◌, ℕ, Bool, false, List, Option, None, Some, Result, Ok, Err, IfOk, IfSome, inl, inr, ap, subst}
 use Rattle.std.specs.Prelude.{Vec, string_bytes}
 use Rattle.std.specs.declared.string.String.{String}
 use Rattle.std.specs.declared.alloc.Global.{Global}
@@ -7,9 +7,12 @@ use Rattle.refusal_reports.specs.Refusals.{too_long}
 use Rattle.view_commands.specs.Words.{Program}
 use Rattle.view_jobs.specs.Files.{OfKnown, ReadsFile}
 use Rattle.f77_lower.specs.declared.lowering.Lowered.{Lowered}
+use Rattle.f77_source.specs.Reading.{reading}
 use Rattle.view_jobs.specs.Given.{Given, IsLoweredTo, given_as, given_meant}
-use Rattle.view_jobs.specs.Lowered.{IsFileText, OfProgram}
-use Rattle.view_jobs.specs.Refused.{TellsFile, TellsLowering, TellsText}
+use Rattle.shown_lines.specs.Lines.{line_of}
+use Rattle.shown_lines.specs.declared.places.Place.{Place}
+use Rattle.view_jobs.specs.Lowered.{IsFileText, OfProgram, TellsPlace, place_report}
+use Rattle.view_jobs.specs.Refused.{TellsFile, TellsProgram, TellsText}
 use Rattle.view_jobs.specs.declared.given.FileText.TheVariants as file_text
 use Rattle.view_jobs.specs.declared.given.Given as read_given
 use Rattle.view_output.specs.Told.{Adds}
@@ -41,8 +44,12 @@ if_ok (Err e) f h = tt
 pub plain_given : (is_wide : Bool) (source : List ℕ) (lowered : Option Lowered) → is_wide ≡ false → lowered ≡ None → IsLoweredTo is_wide source lowered
 plain_given is_wide source lowered plain none = rw (plain, none) tt
 
-pub wide_told : (is_wide : Bool) (name text : List ℕ) (report : Option (List ℕ)) → is_wide ≡ true → TellsLowering name text report → TellsText is_wide name text report
-wide_told is_wide name text report wide told = rw wide told
+-- what is told of the program of a source is told of the source
+pub program_told : (is_wide : Bool) (name source : List ℕ) (given : read_given.Given) (report : Option (List ℕ)) → IsLoweredTo is_wide source given.lowered × (given.source.items ≡ source) → TellsProgram name (given_meant given) (reading (given_meant given).text false) report → TellsText is_wide name source report
+program_told is_wide name source given report is told = inl (record { lowered = given.lowered; is = is.0; holds = subst (λ s. TellsProgram name (given_as s given.lowered) (reading (given_as s given.lowered).text false) report) is.1 told })
+
+pub tells_place : (place : Place) (source line reason report : List ℕ) → line ≡ line_of source place.line → report ≡ place_report place line reason → TellsPlace place source report
+tells_place place source line reason report line_is is = record { reason = reason; is = subst (λ l. report ≡ place_report place l reason) line_is is }
 
 module _ (known : Option (List ℕ)) (p : Program) (Does : Given → Type 0) (told now faults faults_now : Option (List ℕ)) (status : ℕ) where
   -- what was done with the program that was read

@@ -24,13 +24,3 @@ lines_more sources i inside =
 -- one line more
 pub told_line : (sources : List ℕ) (i : ℕ) (a b c : Option (List ℕ)) → i < length sources → Adds a b (lines_text 1 (take i sources)) → Adds b c (line_text (i + 1) (get_or sources i 0)) → Adds a c (lines_text 1 (take (i + 1) sources))
 told_line sources i a b c inside before one = subst (Adds a c) (sym (lines_more sources i inside)) (and_then before one)
-
--- eight texts, one after another
-pub joined : (a b c d e f g h : List ℕ) → a ++ (b ++ (c ++ (d ++ (e ++ (f ++ (g ++ h)))))) ≡ ((((((a ++ b) ++ c) ++ d) ++ e) ++ f) ++ g) ++ h
-joined a b c d e f g h =
-    sym (append_assoc a b (c ++ (d ++ (e ++ (f ++ (g ++ h))))))
-    ∙ sym (append_assoc (a ++ b) c (d ++ (e ++ (f ++ (g ++ h)))))
-    ∙ sym (append_assoc ((a ++ b) ++ c) d (e ++ (f ++ (g ++ h))))
-    ∙ sym (append_assoc (((a ++ b) ++ c) ++ d) e (f ++ (g ++ h)))
-    ∙ sym (append_assoc ((((a ++ b) ++ c) ++ d) ++ e) f (g ++ h))
-    ∙ sym (append_assoc (((((a ++ b) ++ c) ++ d) ++ e) ++ f) g h)

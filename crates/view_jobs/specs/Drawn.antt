@@ -1,5 +1,5 @@
 -- What pictures of a program and of its runs are.
-use Rattle.std.specs.Prelude.{◌≡◌, ℕ, List, [], ◌∷◌, Option, Some}
+use Rattle.std.specs.Prelude.{◌≡◌, ℕ, Bool, true, false, List, [], ◌∷◌, Option, Some}
 use Rattle.lane_charts.specs.Page.{IsPage}
 use Rattle.lane_charts.specs.declared.pages.Run.{Run}
 use Rattle.printed_graphs.specs.declared.dataflow.PrintedGraph.{PrintedGraph}
@@ -8,6 +8,9 @@ use Rattle.printed_graphs.specs.declared.printed.Printed.{Printed}
 use Rattle.printed_graphs.specs.declared.trace.PrintedTrace.{PrintedTrace}
 use Rattle.round_charts.specs.Picture.{Shows}
 use Rattle.trace_profiles.specs.RunRounds.{rounds_from}
+use Rattle.trace_profiles.specs.declared.loads.Loads.{Loads}
+use Rattle.trace_profiles.specs.declared.loads.Loads.TheVariants as loads
+use Rattle.view_commands.specs.RunWords.{forks_apart}
 use Rattle.view_output.specs.Told.{Adds}
 
 -- Both graphs are there, and this is so of them.
@@ -34,12 +37,21 @@ pub record Draws (Is : List ℕ → Type 0) (told now : Option (List ℕ)) : Typ
   pub is : Is text
   pub added : Adds told now text
 
--- the rounds of a run, as they follow from its trace
-abbrev pub rounds_by : PrintedGraph → PrintedTrace → List ℕ
-rounds_by graph trace = rounds_from graph [] trace.firings.items
+-- how loads fire in a run, with `forks` or without
+abbrev pub loads_with : (forks : Bool) → Loads
+loads_with true = loads.InAnyOrder
+loads_with false = loads.InOrder
 
-abbrev pub ShowsRounds : PrintedGraph → PrintedTrace → (text : List ℕ) → Type 0
-ShowsRounds graph trace text = Shows 500 trace.firings.items (rounds_by graph trace) text
+-- the same by the words that tell the run
+abbrev pub loads_of : (words : List (List ℕ)) → Loads
+loads_of words = loads_with (forks_apart words).1
+
+-- the rounds of a run, as they follow from its trace
+abbrev pub rounds_by : PrintedGraph → Loads → PrintedTrace → List ℕ
+rounds_by graph order trace = rounds_from graph order [] trace.firings.items
+
+abbrev pub ShowsRounds : PrintedGraph → Loads → PrintedTrace → (text : List ℕ) → Type 0
+ShowsRounds graph order trace text = Shows 500 trace.firings.items (rounds_by graph order trace) text
 
 -- ---- pages
 
@@ -51,7 +63,7 @@ pub record IsRun (name : List ℕ) (trace : PrintedTrace) (rounds output : List 
   pub printed_is : r.printed.now ≡ output
 
 -- a page with this run alone
-pub record IsPageOfOne (name : List ℕ) (flow : PrintedFlow) (graph : PrintedGraph) (trace : PrintedTrace) (output text : List ℕ) : Type 0 where
+pub record IsPageOfOne (name : List ℕ) (flow : PrintedFlow) (graph : PrintedGraph) (order : Loads) (trace : PrintedTrace) (output text : List ℕ) : Type 0 where
   pub run : Run
-  pub is : IsRun name trace (rounds_by graph trace) output run
+  pub is : IsRun name trace (rounds_by graph order trace) output run
   pub page : IsPage flow graph (run ∷ []) text

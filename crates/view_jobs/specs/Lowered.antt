@@ -1,9 +1,12 @@
 -- What is told of a text that is lowered.
-use Rattle.std.specs.Prelude.{◌≡◌, ◌≤◌, ◌⊎◌, ◌++◌, ℕ, ⊤, suc, true, length, List, [], ◌∷◌, Option, codes, flat_map, string_bytes}
+use Rattle.std.specs.Prelude.{◌≡◌, ◌≤◌, ◌⊎◌, ◌++◌, ℕ, ⊤, suc, true, length, List, [], ◌∷◌, Option, codes, flat_map, is_some, string_bytes}
 use Rattle.std.specs.Fmt.{decimal}
 use Rattle.std.specs.declared.alloc.Global.{Global}
 use Rattle.std.specs.declared.string.String.{String}
 use Rattle.f77_lower.specs.Lowering.{IsProgram}
+use Rattle.shown_lines.specs.Lines.{caret, line_of, shown}
+use Rattle.shown_lines.specs.Places.{place_text, lines_text as shown_lines_text}
+use Rattle.shown_lines.specs.declared.places.Place.{Place}
 use Rattle.source_maps.specs.Places.{Map}
 use Rattle.view_commands.specs.Words.{Program}
 use Rattle.view_commands.specs.declared.arguments.LoweredForm.{LoweredForm}
@@ -17,17 +20,26 @@ use Rattle.view_output.specs.Told.{Adds}
 
 -- ---- what can't be lowered
 
--- FILE:LINE:COLUMN, and why what stands there can't be lowered.
-pub record TellsPlace (name : List ℕ) (line column : ℕ) (report : List ℕ) : Type 0 where
+-- a place, why what stands there can't be lowered, and the lines that are shown
+abbrev pub lowering_text : (place reason lines : List ℕ) → List ℕ
+lowering_text place reason lines = place ++ codes ": error: " ++ reason ++ codes "\n" ++ lines
+
+-- the same of a line, with a caret
+abbrev pub place_report : Place → (line reason : List ℕ) → List ℕ
+place_report place line reason = lowering_text (place_text place) reason (shown_lines_text (shown line) (caret line place.column))
+
+-- The place is told with a reason, and with its line of the source.
+pub record TellsPlace (place : Place) (source report : List ℕ) : Type 0 where
   pub reason : List ℕ
-  pub is : report ≡ name ++ codes ":" ++ decimal line ++ codes ":" ++ decimal column ++ codes ": error: " ++ reason ++ codes "\n"
+  pub is : report ≡ place_report place (line_of source place.line) reason
 
 -- The source is no program, and this tells why it can't be lowered to one.
 pub record IsLoweringReport (name source report : List ℕ) : Type 0 where
   pub no_program : IsProgram source → ⊥
-  pub line : ℕ
-  pub column : ℕ
-  pub tells : TellsPlace name line column report
+  pub place : Place
+  pub in_file : place.file.now ≡ name
+  pub at_column : is_some place.column ≡ true
+  pub tells : TellsPlace place source report
 
 -- what everyday Fortran comes to
 abbrev pub IsLowering : (name source : List ℕ) → Lowering → Type 0

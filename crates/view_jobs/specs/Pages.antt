@@ -6,7 +6,7 @@ use Rattle.made_texts.specs.Texts.{PrintsRun}
 use Rattle.printed_graphs.specs.declared.dataflow.PrintedGraph.{PrintedGraph}
 use Rattle.printed_graphs.specs.declared.flow.PrintedFlow.{PrintedFlow}
 use Rattle.view_commands.specs.RunWords.{forks_apart, picks_added, picks_left_out}
-use Rattle.view_jobs.specs.Drawn.{Draws, IsRun, OfGraphs, OfRun, OfTrace, rounds_by}
+use Rattle.view_jobs.specs.Drawn.{Draws, IsRun, OfGraphs, OfRun, OfTrace, loads_of, rounds_by}
 use Rattle.view_jobs.specs.Given.{Given}
 use Rattle.view_jobs.specs.Outputs.{IsOutput}
 use Rattle.view_jobs.specs.Shown.{IsSeen}
@@ -18,7 +18,7 @@ pub record IsRunBy (given : Given) (words : List (List ℕ)) (run : SeenRun) : T
   pub text : List ℕ
   pub made : PrintsRun (forks_apart words) given.text [] text
   pub seen : IsSeen given.map text run.printed
-  pub rounds : OfRun run.printed (λ flow graph trace. run.rounds.items ≡ rounds_by graph trace)
+  pub rounds : OfRun run.printed (λ flow graph trace. run.rounds.items ≡ rounds_by graph (loads_of words) trace)
   pub status : ℕ
   pub output : IsOutput given words run.output.items status
 

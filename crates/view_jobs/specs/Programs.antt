@@ -5,7 +5,8 @@ use Rattle.copied_names.specs.declared.copied.CopiedName.{CopiedName}
 use Rattle.f77_source.specs.Reading.{reading}
 use Rattle.made_texts.specs.Texts.{PrintsGraphs, PrintsRun}
 use Rattle.view_commands.specs.RunWords.{forks_apart, is_checked_last, is_run_told}
-use Rattle.view_commands.specs.Words.{Program, Shown, Json, Page, Profile, Rounds}
+use Rattle.view_commands.specs.Words.{Program, Shown, Json, JsonTrace, Page, Profile, Rounds}
+use Rattle.view_jobs.specs.Drawn.{loads_of}
 use Rattle.view_jobs.specs.Given.{Given}
 use Rattle.view_jobs.specs.Lowered.{OfProgram}
 use Rattle.view_jobs.specs.Names.{name_text}
@@ -20,6 +21,7 @@ use Rattle.view_output.specs.Told.{Adds}
 abbrev pub needs_run : Shown → (words : List (List ℕ)) → Bool
 needs_run Rounds words = true
 needs_run Profile words = true
+needs_run JsonTrace words = true
 needs_run Json words = is_run_told words
 needs_run _ words = false
 
@@ -38,7 +40,7 @@ pub record IsMade (shown : Shown) (words : List (List ℕ)) (given : Given) (see
 pub record ShowsMade (shown : Shown) (words : List (List ℕ)) (given : Given) (told now : Option (List ℕ)) (status : ℕ) : Type 0 where
   pub seen : Printed
   pub made : IsMade shown words given seen
-  pub shows : ShowsOf shown seen told now
+  pub shows : ShowsOf shown (loads_of words) seen told now
   pub status_is : status ≡ 0
 
 -- a page has two runs of the program

@@ -4,13 +4,15 @@ use Rattle.std.specs.List.{list_any}
 use Rattle.f77_tree.specs.declared.programs.Program.{Program}
 use Rattle.f77_source.specs.Reading.{reading}
 use Rattle.f77_source.specs.declared.source_end.Refusal.{Refusal}
-use Rattle.dfc_jobs.specs.Codes.{name_of}
-use Rattle.dfc_jobs.specs.declared.reading.Code.TheVariants.{Text}
+use Rattle.job_terms.specs.Codes.{name_of}
+use Rattle.job_terms.specs.declared.reading.Code.TheVariants.{Text}
 use Rattle.refusal_reports.specs.Refusals.{IsReportOf, too_long}
-use Rattle.f77_lower.specs.declared.lowering.Lowered.{Lowered}
 use Rattle.source_maps.specs.Places.{Map, line_in}
 use Rattle.view_jobs.specs.Files.{OfKnown}
-use Rattle.view_jobs.specs.Given.{Given, Lowers, given_as}
+use Rattle.sure_traps.specs.SureTraps.{traps_of}
+use Rattle.sure_traps.specs.declared.causes.SureTrap.{SureTrap}
+use Rattle.trap_reports.specs.Reports.{report_of}
+use Rattle.view_jobs.specs.Given.{Given, OfGiven}
 use Rattle.view_jobs.specs.Lowered.{IsLoweringReport}
 use Rattle.view_output.specs.Told.{Adds}
 
@@ -24,14 +26,36 @@ TellsReading name given (Ok p) None = ⊤
 TellsReading name given (Err refusal) (Some report) = IsReportOf name given.source (placed given.map refusal) (name_of (Text refusal.code)) report
 TellsReading name given _ _ = ⊥
 
--- Everyday Fortran is faulty where it can't be lowered.
-abbrev pub TellsLowering : (name source : List ℕ) → Option (List ℕ) → Type 0
-TellsLowering name source None = (lowered : Lowered) × Lowers source lowered
-TellsLowering name source (Some report) = IsLoweringReport name source report
+-- a trap at the line of the source
+abbrev pub trap_placed : Map → SureTrap → SureTrap
+trap_placed m trap = record trap { line = line_in m.lines trap.line }
 
+abbrev pub placed_report : (name : List ℕ) → Given → SureTrap → List ℕ
+placed_report name given trap = report_of name given.source (trap_placed given.map trap)
+
+-- the reports of the traps that are sure, one after another
+abbrev pub traps_text : (name : List ℕ) → Given → Program → List ℕ
+traps_text name given p = flat_map (placed_report name given) (traps_of p)
+
+abbrev pub unless_empty : List ℕ → Option (List ℕ)
+unless_empty [] = None
+unless_empty (c ∷ cs) = Some (c ∷ cs)
+
+-- what is wrong with a program that is read: its traps; and with another text: its refusal
+abbrev pub TellsProgram : (name : List ℕ) → Given → Result Program Refusal → Option (List ℕ) → Type 0
+TellsProgram name given (Ok p) report = report ≡ unless_empty (traps_text name given p)
+TellsProgram name given (Err refusal) report = TellsReading name given (Err refusal) report
+
+-- Everyday Fortran can't be lowered, as this report tells.
+pub record TellsLowering (is_wide : Bool) (name source : List ℕ) (told : Option (List ℕ)) : Type 0 where
+  pub wide : is_wide ≡ true
+  pub report : List ℕ
+  pub is : IsLoweringReport name source report
+  pub told_is : told ≡ Some report
+
+-- what is wrong with the program of a text, or why there is none
 abbrev pub TellsText : (is_wide : Bool) → (name text : List ℕ) → Option (List ℕ) → Type 0
-TellsText true name text report = TellsLowering name text report
-TellsText false name text report = TellsReading name (given_as text None) (reading text false) report
+TellsText is_wide name text report = OfGiven is_wide text (λ given. TellsProgram name given (reading given.text false) report) ⊎ TellsLowering is_wide name text report
 
 -- what is told of a file: that it is too long, or what is wrong with its text
 abbrev pub TellsFile : (is_wide : Bool) → (name text : List ℕ) → Option (List ℕ) → Type 0

@@ -4,8 +4,8 @@ ghost use Rattle.std.specs.Prelude.{◌≡◌, IfOk, OnOk, Some};
 ghost use Rattle.lane_charts.specs.Page.{IsPage};
 ghost use Rattle.lane_charts.specs.Pictures.{ShowsChart};
 ghost use Rattle.round_charts.specs.Picture.{Shows};
-ghost use Rattle.view_commands.specs.Words.{Chart, Page, Rounds};
-ghost use Rattle.view_jobs.specs.Drawn.{Draws, rounds_by};
+ghost use Rattle.view_commands.specs.Words.{Page, Rounds};
+ghost use Rattle.view_jobs.specs.Drawn.{Draws, OfGraphs, rounds_by};
 ghost use Rattle.view_jobs.specs.Shown.{ShowsOf};
 ghost use Rattle.view_output.specs.Told.{told};
 
@@ -13,7 +13,7 @@ use df_io::Sink;
 use lane_charts::{ChartFault, Run, lane_chart, page, rounds_chart};
 use printed_graphs::{Printed, PrintedFlow, PrintedGraph, PrintedTrace};
 use std::alloc::Global;
-use trace_profiles::{lines_before_trace, rounds_of};
+use trace_profiles::{Loads, lines_before_trace, rounds_of};
 use view_output::{Fault, Output};
 
 /// Writes the lane chart of a program, whose text may be empty.
@@ -23,7 +23,7 @@ pub fn write_chart<K: Sink + Drop>(
     source: &[u8],
     output: &mut Output<K>,
 ) -> Result<(), Fault>
-    ensures { OnOk result (ShowsOf Chart printed.now (told K.got output.old) (told K.got output.new)) }
+    ensures { OnOk result (OfGraphs printed.now (λ flow graph. Draws (ShowsChart flow graph) (told K.got output.old) (told K.got output.new))) }
 {
     let (flow, graph) = graphs_of(printed)?;
     draw_chart(alloc, flow, graph, source, output)?;
@@ -48,14 +48,15 @@ fn draw_chart<K: Sink + Drop>(
 pub fn write_rounds<K: Sink + Drop>(
     alloc: Global,
     printed: &Printed,
+    loads: Loads,
     source: &[u8],
     output: &mut Output<K>,
 ) -> Result<(), Fault>
-    ensures { OnOk result (ShowsOf Rounds printed.now (told K.got output.old) (told K.got output.new)) }
+    ensures { OnOk result (ShowsOf Rounds loads printed.now (told K.got output.old) (told K.got output.new)) }
 {
     let (flow, graph) = graphs_of(printed)?;
     let trace = trace_of(printed)?;
-    let rounds = rounds_in(alloc, printed, graph, trace)?;
+    let rounds = rounds_in(alloc, printed, graph, loads, trace)?;
     draw_rounds(alloc, flow, graph, trace, rounds.as_slice(), source, output)?;
     Ok(())
 }
@@ -80,14 +81,15 @@ fn draw_rounds<K: Sink + Drop>(
 pub fn write_page<K: Sink + Drop>(
     alloc: Global,
     printed: &Printed,
+    loads: Loads,
     source: &[u8],
     output: &mut Output<K>,
 ) -> Result<(), Fault>
-    ensures { OnOk result (ShowsOf Page printed.now (told K.got output.old) (told K.got output.new)) }
+    ensures { OnOk result (ShowsOf Page loads printed.now (told K.got output.old) (told K.got output.new)) }
 {
     let (flow, graph) = graphs_of(printed)?;
     let trace = trace_of(printed)?;
-    let rounds = rounds_in(alloc, printed, graph, trace)?;
+    let rounds = rounds_in(alloc, printed, graph, loads, trace)?;
     let run = Run {
         name: "The run",
         trace,
@@ -135,12 +137,13 @@ pub fn rounds_in(
     alloc: Global,
     printed: &Printed,
     graph: &PrintedGraph,
+    loads: Loads,
     trace: &PrintedTrace,
 ) -> Result<Vec<u32>, Fault>
-    ensures { IfOk result (λ rounds. rounds.items ≡ rounds_by graph.now trace.now) }
+    ensures { IfOk result (λ rounds. rounds.items ≡ rounds_by graph.now loads trace.now) }
 {
     let before = lines_before_trace(printed.flow.as_ref(), graph);
-    rounds_of(alloc, graph, trace.firings.as_slice(), before)
+    rounds_of(alloc, graph, loads, trace.firings.as_slice(), before)
 }
 
 // Why nothing was drawn.

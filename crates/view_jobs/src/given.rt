@@ -1,17 +1,20 @@
 //! The program in a file, as it was given and in the language of `dfc`.
 
-ghost use Rattle.std.specs.Prelude.{◌≡◌, ◌≤◌, IfOk, None, length, string_bytes};
+ghost use Rattle.std.specs.Prelude.{◌≡◌, ◌≤◌, IfOk, None, Some, length, string_bytes};
+ghost use Rattle.shown_lines.specs.Places.{place_text, shown_text};
 ghost use Rattle.source_maps.specs.Places.{map_of};
 ghost use Rattle.view_commands.specs.Words.{program_meant};
 ghost use Rattle.view_jobs.specs.Files.{OfKnown};
 ghost use Rattle.view_jobs.specs.Given.{given_as, given_meant};
-ghost use Rattle.view_jobs.specs.Lowered.{IsFileText, IsLowering, IsWithinFile, IsWithinLowering, TellsPlace};
+ghost use Rattle.view_jobs.specs.Lowered.{IsFileText, IsLowering, IsWithinFile, IsWithinLowering, TellsPlace, lowering_text, place_report};
 
 use crate::files::{Files, LONGEST};
 use f77_lower::{Lowered, lower};
 use fortran_tree::{LowerError, Reason};
+use shown_lines::{Place, Shown, caret, line_of, shown};
 use source_maps::SourceMap;
 use std::alloc::Global;
+use std::fmt;
 use view_commands::Program;
 use view_output::Fault;
 
@@ -88,8 +91,8 @@ pub fn read_given<F: Files>(
     given_of(alloc, program, source)
 }
 
-// What a source is as a program.
-fn given_of(alloc: Global, program: Program<'_>, source: Vec<u8>) -> Result<FileText, Fault>
+/// What a source is as a program.
+pub fn given_of(alloc: Global, program: Program<'_>, source: Vec<u8>) -> Result<FileText, Fault>
     requires { length source.items ≤ 4194304 }
     ensures text { IfOk result (IsFileText (program_meant program.entry) source.items) }
     ensures within { IfOk result IsWithinFile }
@@ -138,24 +141,67 @@ pub fn lower_text(alloc: Global, name: &str, source: &[u8]) -> Result<Lowering, 
                 reason,
             },
         ) => {
-            let report = lowering_report(alloc, name, line, column, reason)?;
+            let place = Place {
+                file: name,
+                line,
+                column: Some(column),
+            };
+            let report = lowering_report(alloc, place, source, reason)?;
             Ok(Lowering::Refused(report))
         }
         Err(LowerError::NoMemory) => Err(Fault::NoMemory),
     }
 }
 
-// Why what stands at a place can't be lowered.
+// Why what stands at a place of a source can't be lowered, with the line.
 fn lowering_report(
     alloc: Global,
-    name: &str,
-    line: u32,
-    column: u32,
+    place: Place<'_>,
+    source: &[u8],
     reason: Reason,
 ) -> Result<String, Fault>
-    ensures { IfOk result (λ report. TellsPlace name.now line column (string_bytes report)) }
+    ensures { IfOk result (λ report. TellsPlace place.entry source.now (string_bytes report)) }
 {
     let why = format!(in alloc; "{reason}")?;
-    let why = why.as_str();
-    Ok(format!(in alloc; "{name}:{line}:{column}: error: {why}\n")?)
+    let line = line_of(source, place.line);
+    written(alloc, place, line, why.as_str())
+}
+
+// The text of a report.
+fn written<'p, 'w>(
+    alloc: Global,
+    place: Place<'p>,
+    line: &[u8],
+    why: &'w str,
+) -> Result<String, Fault>
+    ensures { IfOk result (λ report. string_bytes report ≡ place_report place.entry line.now why.now) }
+{
+    let caret = caret(alloc, line, place.column)?;
+    let line = shown(alloc, line)?;
+    let report = LoweringReport {
+        place,
+        why,
+        shown: Shown {
+            line: line.as_str(),
+            caret: caret.as_str(),
+        },
+    };
+    Ok(format!(in alloc; "{report}")?)
+}
+
+// What is told of a text that can't be lowered.
+#[derive(Clone, Copy)]
+struct LoweringReport<'p, 'w, 's> {
+    place: Place<'p>,
+    why: &'w str,
+    shown: Shown<'s>,
+}
+
+impl fmt::Display for LoweringReport<'_, '_, '_> {
+    ghost output = { λ report. Some (lowering_text (place_text report.place) report.why.now (shown_text report.shown)) };
+
+    fn fmt<W: fmt::Write>(&self, f: &mut fmt::Formatter<W>) -> fmt::Result {
+        let LoweringReport { place, why, shown } = *self;
+        write!(f, "{place}: error: {why}\n{shown}")
+    }
 }

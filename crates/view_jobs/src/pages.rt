@@ -2,7 +2,7 @@
 
 ghost use Rattle.std.specs.Prelude.{◌≡◌, IfOk, OnOk, map, string_bytes};
 ghost use Rattle.view_commands.specs.Words.{program_meant};
-ghost use Rattle.view_jobs.specs.Drawn.{Draws, OfGraphs, OfRun, rounds_by};
+ghost use Rattle.view_jobs.specs.Drawn.{Draws, OfGraphs, OfRun, loads_of as spec_loads_of, rounds_by};
 ghost use Rattle.view_jobs.specs.Given.{IsWithin, given_meant};
 ghost use Rattle.view_jobs.specs.Pages.{AreRuns, IsPageOfTwo, IsRunBy, IsSeenRun, ShowsPage};
 ghost use Rattle.view_jobs.specs.Programs.{UnlessRefused};
@@ -13,7 +13,7 @@ use crate::charts::{draw_page, graphs_of, rounds_in, trace_of};
 use crate::given::Given;
 use crate::outputs::output_of;
 use crate::refusals::refused;
-use crate::view::seen;
+use crate::view::{loads_of, seen};
 use df_io::Sink;
 use lane_charts::Run;
 use made_texts::{TextSink, print_run};
@@ -81,7 +81,7 @@ fn run_by(alloc: Global, given: &Given, words: &[String]) -> Result<SeenRun, Fau
     let mut text = TextSink::new(alloc);
     print_run(alloc, given.text(), words, &mut text)?;
     let printed = seen(alloc, given, text.text())?;
-    let rounds = rounds_of_run(alloc, &printed)?;
+    let rounds = rounds_of_run(alloc, &printed, words)?;
     let (output, _) = output_of(alloc, given, words)?;
     Ok(SeenRun {
         printed,
@@ -90,13 +90,14 @@ fn run_by(alloc: Global, given: &Given, words: &[String]) -> Result<SeenRun, Fau
     })
 }
 
-// The round of each firing of a run.
-fn rounds_of_run(alloc: Global, printed: &Printed) -> Result<Vec<u32>, Fault>
-    ensures { IfOk result (λ rounds. OfRun printed.now (λ flow graph trace. rounds.items ≡ rounds_by graph trace)) }
+// The round of each firing of the run that the words tell.
+fn rounds_of_run(alloc: Global, printed: &Printed, words: &[String]) -> Result<Vec<u32>, Fault>
+    ensures { IfOk result (λ rounds. OfRun printed.now (λ flow graph trace. rounds.items ≡ rounds_by graph (spec_loads_of (map string_bytes words.now)) trace)) }
 {
     let (_, graph) = graphs_of(printed)?;
     let trace = trace_of(printed)?;
-    rounds_in(alloc, printed, graph, trace)
+    let loads = loads_of(words);
+    rounds_in(alloc, printed, graph, loads, trace)
 }
 
 // Writes the page of two runs, on the graph of the first.

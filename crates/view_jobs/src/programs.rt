@@ -15,7 +15,7 @@ use crate::names::write_names;
 use crate::outputs::output_of;
 use crate::pages::show_page;
 use crate::refusals::{refused, tell_refused};
-use crate::view::{seen, show_printed};
+use crate::view::{loads_of, seen, show_printed};
 use copied_names::copied_names;
 use df_io::Sink;
 use f77_source::SourceEnd;
@@ -74,7 +74,8 @@ fn show_made<K: Sink + Drop, E: Sink + Drop>(
 {
     match made_for(alloc, &task, given, program.words) {
         Ok(printed) => {
-            show_printed(alloc, task, &printed, given.source(), output)?;
+            let loads = loads_of(program.words);
+            show_printed(alloc, task, loads, &printed, given.source(), output)?;
             Ok(DONE)
         }
         Err(fault) => refused(alloc, program, given, fault, errors),
@@ -186,7 +187,7 @@ fn needs_run(task: &Task, words: &[String]) -> bool
     ensures { result ≡ spec_needs_run (task_meant task.now) (map string_bytes words.now) }
 {
     match task {
-        Task::Rounds | Task::Profile => true,
+        Task::Rounds | Task::Profile | Task::JsonTrace => true,
         Task::Json => tells_run(words),
         Task::Chart
         | Task::Page

@@ -1,28 +1,32 @@
 //! What is wrong with a text.
 
-ghost use Rattle.std.specs.Prelude.{◌≡◌, ◌≤◌, IfOk, None, length, map, option_map};
+ghost use Rattle.std.specs.Prelude.{◌≡◌, ◌≤◌, IfOk, false, flat_map, length, map, option_map};
 ghost use Rattle.std.specs.String.{string_bytes};
-ghost use Rattle.dfc_jobs.specs.Codes.{name_of};
-ghost use Rattle.dfc_jobs.specs.declared.reading.Code.TheVariants as code_kind;
+ghost use Rattle.job_terms.specs.Codes.{name_of};
+ghost use Rattle.job_terms.specs.declared.reading.Code.TheVariants as code_kind;
 ghost use Rattle.f77_source.specs.Reading.{reading};
+ghost use Rattle.f77_tree.specs.WellFormed.{IsWellFormed};
 ghost use Rattle.refusal_reports.specs.Refusals.{IsReportOf};
 ghost use Rattle.source_maps.specs.Places.{map_of};
 ghost use Rattle.view_commands.specs.Words.{program_meant};
 ghost use Rattle.view_jobs.specs.Files.{OfKnown};
 ghost use Rattle.view_jobs.specs.Given.{IsWithin, given_meant};
 ghost use Rattle.view_jobs.specs.Programs.{RefusesProgram};
-ghost use Rattle.view_jobs.specs.Refused.{ChecksFiles, ReportsFile, ReportsFiles, TellsFile, TellsLowering, TellsReading, TellsText, placed as spec_placed};
+ghost use Rattle.view_jobs.specs.Refused.{ChecksFiles, ReportsFile, ReportsFiles, TellsFile, TellsProgram, TellsReading, TellsText, placed as spec_placed, placed_report, traps_text, unless_empty as spec_unless_empty};
 ghost use Rattle.view_output.specs.Told.{Adds, told};
 
 use crate::files::Files;
-use crate::given::{Given, Lowering, as_it_is, lower_text};
+use crate::given::{FileText, Given, given_of};
 use crate::{DONE, FAULTY, REFUSED};
 use df_io::Sink;
-use dfc_jobs::Code;
 use f77_source::{Refusal, SourceEnd, read_program};
+use f77_tree::Program as SourceProgram;
+use job_terms::Code;
 use refusal_reports::{refusal_report, too_long_report};
 use source_maps::SourceMap;
 use std::alloc::Global;
+use sure_traps::{SureTrap, sure_traps};
+use trap_reports::trap_report;
 use view_commands::{Program, is_checked};
 use view_output::{Fault, Output};
 
@@ -106,22 +110,76 @@ fn report_of_text(
     requires { length text.items ≤ 4194304 }
     ensures { IfOk result (λ report. TellsText is_wide name.now text.items (option_map string_bytes report)) }
 {
-    if is_wide {
-        report_of_wide(alloc, name, text.as_slice())
-    } else {
-        report_of(alloc, name, &as_it_is(text), false)
+    let program = Program {
+        is_wide,
+        name,
+        words: &[],
+    };
+    match given_of(alloc, program, text)? {
+        FileText::Program(given) => report_of_program(alloc, name, &given),
+        FileText::Refused(report) => Ok(Some(report)),
     }
 }
 
-// What is wrong with everyday Fortran, if anything is.
-fn report_of_wide(alloc: Global, name: &str, text: &[u8]) -> Result<Option<String>, Fault>
-    requires { length text.now ≤ 4194304 }
-    ensures { IfOk result (λ report. TellsLowering name.now text.now (option_map string_bytes report)) }
+// What is wrong with a program, if anything is: why `dfc` refuses it, or which statements trap whenever they are executed.
+fn report_of_program(alloc: Global, name: &str, given: &Given) -> Result<Option<String>, Fault>
+    requires { IsWithin (given_meant given.now) }
+    ensures { IfOk result (λ report. TellsProgram name.now (given_meant given.now) (reading (given_meant given.now).text false) (option_map string_bytes report)) }
 {
-    match lower_text(alloc, name, text)? {
-        Lowering::Done(_) => Ok(None),
-        Lowering::Refused(report) => Ok(Some(report)),
+    match read_program(alloc, given.text(), false) {
+        Ok(p) => Ok(unless_empty(reports_of_traps(alloc, name, given, &p)?)),
+        Err(SourceEnd::Refused(refusal)) => Ok(Some(report(alloc, name, given, refusal)?)),
+        Err(SourceEnd::NoMemory) => Err(Fault::NoMemory),
     }
+}
+
+// A text, if it has characters.
+fn unless_empty(text: String) -> Option<String>
+    ensures { option_map string_bytes result ≡ spec_unless_empty (string_bytes text) }
+{
+    if text.is_empty() { None } else { Some(text) }
+}
+
+// The reports of the traps that are sure, one after another.
+fn reports_of_traps(
+    alloc: Global,
+    name: &str,
+    given: &Given,
+    p: &SourceProgram,
+) -> Result<String, Fault>
+    requires { IsWellFormed p.now }
+    ensures { IfOk result (λ reports. string_bytes reports ≡ traps_text name.now (given_meant given.now) p.now) }
+{
+    let traps = sure_traps(alloc, p)?;
+    one_after_another(alloc, name, given, traps.as_slice())
+}
+
+// The reports of traps.
+fn one_after_another(
+    alloc: Global,
+    name: &str,
+    given: &Given,
+    traps: &[SureTrap],
+) -> Result<String, Fault>
+    ensures { IfOk result (λ reports. string_bytes reports ≡ flat_map (placed_report name.now (given_meant given.now)) traps.now) }
+{
+    let mut reports = String::new(alloc);
+    for trap in traps {
+        let report = trap_of(alloc, name, given, *trap)?;
+        reports.push_str(report.as_str())?;
+    }
+    Ok(reports)
+}
+
+// The report of a trap.
+fn trap_of(alloc: Global, name: &str, given: &Given, trap: SureTrap) -> Result<String, Fault>
+    ensures { IfOk result (λ report. string_bytes report ≡ placed_report name.now (given_meant given.now) trap) }
+{
+    let at_source = SureTrap {
+        line: given.map().line(trap.line),
+        cause: trap.cause,
+    };
+    Ok(trap_report(alloc, name, given.source(), at_source)?)
 }
 
 /// What is wrong with a program, if `dfc` refuses it, in the checked dialect or the plain one.

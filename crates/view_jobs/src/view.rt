@@ -1,23 +1,25 @@
 //! Reads a text and shows it.
 
-ghost use Rattle.std.specs.Prelude.{◌≡◌, IfOk, OnOk, option_map};
+ghost use Rattle.std.specs.Prelude.{◌≡◌, [], IfOk, OnOk, map, option_map, string_bytes, unwrap_or};
+ghost use Rattle.dependence_texts.specs.Told.{ToldDependences, ToldIndependence, ToldJson};
+ghost use Rattle.view_jobs.specs.Drawn.{OfGraphs, OfTrace, loads_of as spec_loads_of};
 ghost use Rattle.view_jobs.specs.Given.{given_meant};
-ghost use Rattle.view_jobs.specs.Shown.{IsSeen, IsTextOf, ShowsOf, ShowsSource, rounds_in as spec_rounds_in};
-ghost use Rattle.view_commands.specs.Words.{Dependences, DependencesJson, Independent, Json, task_meant};
+ghost use Rattle.view_jobs.specs.Shown.{DrawsDot, DrawsFlow, IsSeen, IsTextOf, ShowsOf, ShowsProfile, ShowsSource, ShowsTrace, rounds_in as spec_rounds_in};
+ghost use Rattle.view_commands.specs.Words.{Json, lines_meant, task_meant};
 ghost use Rattle.view_output.specs.Told.{told};
 
-use crate::charts::{graphs_of, write_chart, write_page, write_rounds};
+use crate::charts::{graphs_of, trace_of, write_chart, write_page, write_rounds};
 use crate::given::Given;
 use dependence_texts::{write_dependences, write_dependences_json, write_independence};
 use df_io::{Sink, Source, read_all};
 use graph_dependences::has_operations;
-use graph_json::write_printed;
+use graph_json::{Graphs, write_printed, write_trace_lines};
 use graph_pictures::{write_flow, write_graph};
 use printed_graphs::{Printed, PrintedFlow, PrintedGraph, ReadFault, read_printed};
 use source_maps::tell_source;
 use std::alloc::Global;
-use trace_profiles::{lines_before_trace, rounds_of, write_profile};
-use view_commands::Task;
+use trace_profiles::{Loads, lines_before_trace, rounds_of, write_profile};
+use view_commands::{Task, without_forks};
 use view_output::{Fault, Lines, Output, line_of};
 
 // The most bytes of a text.
@@ -34,7 +36,7 @@ pub fn show<S: Source, K: Sink + Drop>(
 {
     let text = read_all(alloc, source, LONGEST)?;
     let printed = read_text(alloc, text.as_slice(), output)?;
-    show_printed(alloc, task, &printed, &[], output)
+    show_printed(alloc, task, Loads::InOrder, &printed, &[], output)
 }
 
 /// What was printed of a program, with lines and names of the source.
@@ -64,24 +66,37 @@ fn read_text<K: Sink + Drop>(
     }
 }
 
-/// Shows something of a program, whose own text may be empty.
+/// How loads fire in the run that the words tell.
+pub fn loads_of(words: &[String]) -> Loads
+    ensures { result ≡ spec_loads_of (map string_bytes words.now) }
+{
+    if without_forks(words).1 {
+        Loads::InAnyOrder
+    } else {
+        Loads::InOrder
+    }
+}
+
+/// Shows something of a program, of which loads fire in this order. Its own text may be empty.
 pub fn show_printed<K: Sink + Drop>(
     alloc: Global,
     task: Task,
+    loads: Loads,
     printed: &Printed,
     source: &[u8],
     output: &mut Output<K>,
 ) -> Result<(), Fault>
-    ensures { OnOk result (ShowsOf (task_meant task) printed.now (told K.got output.old) (told K.got output.new)) }
+    ensures { OnOk result (ShowsOf (task_meant task) loads printed.now (told K.got output.old) (told K.got output.new)) }
 {
     match task {
         Task::Chart => write_chart(alloc, printed, source, output),
-        Task::Rounds => write_rounds(alloc, printed, source, output),
-        Task::Page => write_page(alloc, printed, source, output),
+        Task::Rounds => write_rounds(alloc, printed, loads, source, output),
+        Task::Page => write_page(alloc, printed, loads, source, output),
         Task::Regions => flow_picture(alloc, printed, true, output),
         Task::Dot(lines) => picture(alloc, printed, &lines, output),
-        Task::Json => show_json(alloc, printed, output),
-        Task::Profile => profile_of(alloc, printed, output),
+        Task::Json => show_json(alloc, printed, loads, output),
+        Task::JsonTrace => show_trace(alloc, printed, loads, output),
+        Task::Profile => profile_of(alloc, printed, loads, output),
         Task::Dependences => show_dependences(alloc, printed, output),
         Task::DependencesJson => show_dependences_json(alloc, printed, output),
         Task::Independent(first, second) => {
@@ -94,26 +109,55 @@ pub fn show_printed<K: Sink + Drop>(
 fn show_json<K: Sink + Drop>(
     alloc: Global,
     printed: &Printed,
+    loads: Loads,
     output: &mut Output<K>,
 ) -> Result<(), Fault>
-    ensures { OnOk result (ShowsOf Json printed.now (told K.got output.old) (told K.got output.new)) }
+    ensures { OnOk result (ShowsOf Json loads printed.now (told K.got output.old) (told K.got output.new)) }
 {
-    let rounds = rounds_in(alloc, printed)?;
+    let rounds = rounds_in(alloc, printed, loads)?;
     write_printed(alloc, printed, &rounds, output)?;
     Ok(())
 }
 
+// The trace, as lines of JSON.
+fn show_trace<K: Sink + Drop>(
+    alloc: Global,
+    printed: &Printed,
+    loads: Loads,
+    output: &mut Output<K>,
+) -> Result<(), Fault>
+    ensures { OnOk result (OfTrace printed.now (λ trace. ShowsTrace loads printed.now trace (told K.got output.old) (told K.got output.new))) }
+{
+    let trace = trace_of(printed)?;
+    let rounds = known_rounds(alloc, printed, loads)?;
+    let graphs = Graphs {
+        flow: &printed.flow,
+        graph: &printed.graph,
+    };
+    write_trace_lines(graphs, trace, rounds.as_slice(), output)
+}
+
 // The round of each firing of the trace, where the graph is known.
-fn rounds_in(alloc: Global, printed: &Printed) -> Result<Option<Vec<u32>>, Fault>
-    ensures { IfOk result (λ rounds. option_map (λ all. all.items) rounds ≡ spec_rounds_in printed.now.graph printed.now.trace) }
+fn rounds_in(alloc: Global, printed: &Printed, loads: Loads) -> Result<Option<Vec<u32>>, Fault>
+    ensures { IfOk result (λ rounds. option_map (λ all. all.items) rounds ≡ spec_rounds_in loads printed.now.graph printed.now.trace) }
 {
     match (&printed.graph, &printed.trace) {
         (Some(graph), Some(trace)) => {
             let before = lines_before_trace(printed.flow.as_ref(), graph);
-            let rounds = rounds_of(alloc, graph, trace.firings.as_slice(), before)?;
+            let rounds = rounds_of(alloc, graph, loads, trace.firings.as_slice(), before)?;
             Ok(Some(rounds))
         }
         _ => Ok(None),
+    }
+}
+
+// The same, and no rounds where the graph isn't known.
+fn known_rounds(alloc: Global, printed: &Printed, loads: Loads) -> Result<Vec<u32>, Fault>
+    ensures { IfOk result (λ rounds. rounds.items ≡ unwrap_or (spec_rounds_in loads printed.now.graph printed.now.trace) []) }
+{
+    match rounds_in(alloc, printed, loads)? {
+        Some(rounds) => Ok(rounds),
+        None => Ok(Vec::new(alloc)),
     }
 }
 
@@ -123,7 +167,7 @@ fn show_dependences<K: Sink + Drop>(
     printed: &Printed,
     output: &mut Output<K>,
 ) -> Result<(), Fault>
-    ensures { OnOk result (ShowsOf Dependences printed.now (told K.got output.old) (told K.got output.new)) }
+    ensures { OnOk result (OfGraphs printed.now (λ flow graph. ToldDependences graph flow (told K.got output.old) (told K.got output.new))) }
 {
     let (flow, graph) = graphs_of(printed)?;
     write_dependences(alloc, flow, graph, output)?;
@@ -136,7 +180,7 @@ fn show_dependences_json<K: Sink + Drop>(
     printed: &Printed,
     output: &mut Output<K>,
 ) -> Result<(), Fault>
-    ensures { OnOk result (ShowsOf DependencesJson printed.now (told K.got output.old) (told K.got output.new)) }
+    ensures { OnOk result (OfGraphs printed.now (λ flow graph. ToldJson graph flow (told K.got output.old) (told K.got output.new))) }
 {
     let (flow, graph) = graphs_of(printed)?;
     write_dependences_json(alloc, flow, graph, output)?;
@@ -151,7 +195,7 @@ fn show_independence<K: Sink + Drop>(
     second: u32,
     output: &mut Output<K>,
 ) -> Result<(), Fault>
-    ensures { OnOk result (ShowsOf (Independent first second) printed.now (told K.got output.old) (told K.got output.new)) }
+    ensures { OnOk result (OfGraphs printed.now (λ flow graph. ToldIndependence graph flow first second (told K.got output.old) (told K.got output.new))) }
 {
     let (flow, graph) = graphs_of(printed)?;
     check_statement(flow, graph, first)?;
@@ -194,7 +238,9 @@ fn picture<K: Sink + Drop>(
     printed: &Printed,
     lines: &Lines,
     output: &mut Output<K>,
-) -> Result<(), Fault> {
+) -> Result<(), Fault>
+    ensures { OnOk result (DrawsDot (lines_meant lines.now) printed.now printed.now.graph (told K.got output.old) (told K.got output.new)) }
+{
     match (&printed.graph, lines) {
         (Some(graph), _) => {
             check_lines(lines, graph.lines.len())?;
@@ -228,7 +274,9 @@ fn flow_picture<K: Sink + Drop>(
     printed: &Printed,
     with_regions: bool,
     output: &mut Output<K>,
-) -> Result<(), Fault> {
+) -> Result<(), Fault>
+    ensures { OnOk result (DrawsFlow with_regions printed.now (told K.got output.old) (told K.got output.new)) }
+{
     match &printed.flow {
         Some(flow) => write_flow(alloc, flow, with_regions, output),
         None => Err(Fault::NoText),
@@ -239,9 +287,12 @@ fn flow_picture<K: Sink + Drop>(
 fn profile_of<K: Sink + Drop>(
     alloc: Global,
     printed: &Printed,
+    loads: Loads,
     output: &mut Output<K>,
-) -> Result<(), Fault> {
+) -> Result<(), Fault>
+    ensures { OnOk result (ShowsProfile loads printed.now (told K.got output.old) (told K.got output.new)) }
+{
     let graph = printed.graph.as_ref().ok_or(Fault::NoText)?;
     let trace = printed.trace.as_ref().ok_or(Fault::NoText)?;
-    write_profile(alloc, printed.flow.as_ref(), graph, trace, output)
+    write_profile(alloc, printed.flow.as_ref(), graph, trace, loads, output)
 }

@@ -12,6 +12,6 @@ returns g c = record {
   holds = record {
     trace = c.in_ok-trace.trace.now;
     trace_is = search rules;
-    holds = page_of_one (codes "The run") c.in_ok-trace.trace.now [] c.in_ok-draw_page.ensures (record { name_is = search rules; trace_is = search rules; rounds_are = search rules; printed_is = search rules });
+    holds = page_of_one (codes "The run") c.args.loads c.in_ok-trace.trace.now [] c.in_ok-draw_page.ensures (record { name_is = search rules; trace_is = search rules; rounds_are = search rules; printed_is = search rules });
   };
 }

@@ -1,6 +1,0 @@
-use Rattle.std.proofs.Common.{◌∙◌, ap}
-use Rattle.refusal_causes.specs.Forms.{advice_on_plain}
-use Rattle.refusal_causes.proofs.forms.advice_on_form.Goals as goal
-
-pub returns : goal.returns
-returns c = c.advice_on_plain.ensures ∙ ap (advice_on_plain c.args.tables.now c.args.text.now) (c.as_slice.ensures.value ∙ c.in_ok-plain.ensures)

@@ -1,7 +1,0 @@
-use Rattle.std.proofs.Common.{sym, ap, ◌∙◌}
-use Rattle.refusal_causes.specs.Units.{inner}
-use Rattle.refusal_causes.proofs.UnitParts.{inner-ThenIf}
-use Rattle.refusal_causes.proofs.units.inner.Goals as goal
-
-pub returns-in-ThenIf : goal.returns-in-ThenIf
-returns-in-ThenIf c = c.get.ensures ∙ sym (inner-ThenIf c.in-ThenIf.field-0 c.in-ThenIf.inner) ∙ ap inner (sym c.in-ThenIf.is)

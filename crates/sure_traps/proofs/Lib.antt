@@ -1,0 +1,5 @@
+pub mod Constants
+pub mod Rows
+pub mod Sound
+pub mod Stops
+pub mod Told
