@@ -1,3 +1,1 @@
 pub mod Lowering
-pub mod ShortNames
-pub mod Shortening

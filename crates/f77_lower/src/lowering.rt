@@ -2,11 +2,10 @@
 
 ghost use Rattle.std.specs.Prelude.{◌≡◌, ◌<◌, ◌≤◌, length, IfOk, IfErr, OnOk};
 ghost use Rattle.f77_lower.specs.Lowering.{IsAsItWas, IsProgram, IsLineMap, line_feeds as line_feeds_in, number_of_lines as lines_in};
-ghost use Rattle.f77_lower.specs.ShortNames.{AreShortNames};
 ghost use Rattle.fortran_tree.specs.declared.error.LowerError.TheVariants.{NoMemory};
 
 use crate::language::{MOST_BYTES, refuse_no_program};
-use crate::shorten::{ShortNames, short_names};
+use crate::shorten::short_names;
 use call_rules::{Program, with_bounds};
 use f77_source::{SourceEnd, read_program};
 use fortran_tree::{
@@ -27,7 +26,7 @@ pub struct Lowered {
     pub text: Vec<u8>,
     /// For each line of the text the line of the source that it comes from, counted from 1, and one more for the end of the text.
     pub lines: Vec<u32>,
-    /// The names of the source that had to be shortened, in upper case, each with its short name.
+    /// The names of the source that had to be shortened, each with its short name.
     pub renamed: Vec<(String, String)>,
 }
 
@@ -53,6 +52,19 @@ fn lowered_alone(
     Ok(Unit {
         statements: written,
     })
+}
+
+/// The names that are spelled otherwise than in the source.
+fn renamed(
+    alloc: Global,
+    names: &Names,
+    shorts: IndexMap<Name, String>,
+) -> Result<Vec<(String, String)>, LowerError> {
+    let mut pairs = Vec::new(alloc);
+    for (name, short) in shorts {
+        pairs.push((String::from_str(alloc, names.spelling(name))?, short))?;
+    }
+    Ok(pairs)
 }
 
 /// The units of a text, lowered by the rules that look at one unit alone, the main program first.
@@ -155,14 +167,13 @@ fn number_of_lines(text: &[u8]) -> usize
 }
 
 /// A program as it is.
-#[tactic(auto, using(crate::proofs::Lines::few_lines, crate::proofs::Readings::same_program, crate::proofs::Shorter::no_short_names))]
+#[tactic(auto, using(crate::proofs::Lines::few_lines, crate::proofs::Readings::same_program))]
 fn as_it_is(alloc: Global, source: &[u8]) -> Result<Lowered, LowerError>
     requires few { length source.now ≤ MOST_BYTES }
     requires program { IsProgram source.now }
     ensures program { IfOk result (λ lowered. IsProgram lowered.text.items) }
     ensures same { IfOk result (IsAsItWas source.now) }
     ensures lines { IfOk result (λ lowered. IsLineMap source.now lowered.text.items lowered.lines.items) }
-    ensures names { IfOk result (λ lowered. AreShortNames lowered.renamed.items) }
     ensures refused { IfErr result (λ e. e ≡ NoMemory) }
 {
     let mut lines = Vec::new(alloc);
@@ -232,12 +243,12 @@ fn written(
     requires { length source.now ≤ MOST_BYTES }
     ensures program { IfOk result (λ lowered. IsProgram lowered.text.items) }
     ensures lines { IfOk result (λ lowered. IsLineMap source.now lowered.text.items lowered.lines.items) }
-    ensures names { IfOk result (λ lowered. AreShortNames lowered.renamed.items) }
 {
-    let ShortNames { spellings, renamed } = short_names(alloc, names, statements)?;
-    let (text, places) = printed(alloc, names, &spellings, statements)?;
+    let shorts = short_names(alloc, names, statements)?;
+    let (text, places) = printed(alloc, names, &shorts, statements)?;
     refuse_no_program(alloc, &text, &places)?;
     let lines = line_map(alloc, source, &text, &places)?;
+    let renamed = renamed(alloc, names, shorts)?;
     Ok(Lowered {
         text,
         lines,
@@ -268,7 +279,6 @@ fn by_rules(alloc: Global, source: &[u8]) -> Result<Lowered, LowerError>
     requires { length source.now ≤ MOST_BYTES }
     ensures program { IfOk result (λ lowered. IsProgram lowered.text.items) }
     ensures lines { IfOk result (λ lowered. IsLineMap source.now lowered.text.items lowered.lines.items) }
-    ensures names { IfOk result (λ lowered. AreShortNames lowered.renamed.items) }
 {
     let (program, units) = begun(alloc, source)?;
     let (mut program, units) = called(program, units)?;
@@ -289,7 +299,6 @@ pub fn lower(alloc: Global, source: &[u8]) -> Result<Lowered, LowerError>
     ensures same { IsProgram source.now → IfOk result (IsAsItWas source.now) }
     ensures refused { IsProgram source.now → length source.now ≤ MOST_BYTES → IfErr result (λ e. e ≡ NoMemory) }
     ensures lines { IfOk result (λ lowered. IsLineMap source.now lowered.text.items lowered.lines.items) }
-    ensures names { IfOk result (λ lowered. AreShortNames lowered.renamed.items) }
 {
     if source.len() > MOST_BYTES {
         let reason = Reason::Language("a text of more than 4,194,304 bytes");

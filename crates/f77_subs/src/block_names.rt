@@ -2,7 +2,6 @@
 ghost use Rattle.std.specs.Prelude.{◌≡◌, ◌++◌, ◌∷◌, [], ℕ, List, Option, Some, None, if◌then◌else◌, unwrap_or, bytes_eq, IfOk, OnOk};
 ghost use Rattle.std.specs.Option.{is_none};
 ghost use Rattle.indexmap.specs.IndexMap.{get};
-ghost use Rattle.f77_tree.specs.Places.{same_block};
 ghost use Rattle.f77_subs.specs.BlockTables.{AreNoted, HasMore, IsTableOfBlocks, decl_names, found_names, more_if, names_under};
 
 use declared_names::NameDeclarations;

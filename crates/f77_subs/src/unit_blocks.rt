@@ -1,5 +1,5 @@
 //! The COMMON blocks of a unit.
-ghost use Rattle.std.specs.Prelude.{◌≡◌, ◌*◌, ◌^◌, ◌++◌, ◌∷◌, [], List, Option, ℕ, length, option_copied, if◌then◌else◌, Some, None, bytes_eq, IfOk, OnOk};
+ghost use Rattle.std.specs.Prelude.{◌≡◌, ◌*◌, ◌^◌, ◌++◌, ◌∷◌, [], List, Option, length, option_copied, Some, None, bytes_eq, IfOk, OnOk};
 ghost use Rattle.indexmap.specs.IndexMap.{get};
 ghost use Rattle.f77_tree.specs.Places.{same_block};
 ghost use Rattle.declared_names.specs.KeptDeclarations.{Keeps};
