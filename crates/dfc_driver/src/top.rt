@@ -10,7 +10,7 @@ ghost use Rattle.dfc_driver.specs.WordsDue.{IsDue, IsDueFor, IsOwnFor, MeansFor,
 
 use crate::numbers::{data_in, picks_in};
 use crate::words::{Job, TaskWords, read_words};
-use df_io::{Sink, Source};
+use df_io::{NoMemory, Sink, Source};
 use dfc_jobs::do_task;
 use job_laws::{sample_texts_mean, texts_mean};
 use job_terms::{Status, tell_usage};
@@ -86,13 +86,13 @@ fn on_words<S: Source, K: Sink>(
     ensures blames { Blames (S.faults source.old) (S.faults source.new) (K.faults sink.old) (K.faults sink.new) (code_of result) }
 {
     texts_mean();
-    let Ok(picks) = picks_in(alloc, words.picks()) else {
-        return Status::NoMemory;
-    };
-    let Ok(data) = data_in(alloc, words.data()) else {
-        return Status::NoMemory;
-    };
-    do_task(alloc, words.task(&picks, &data), checked, source, sink)
+    match picks_in(alloc, words.picks()) {
+        Err(NoMemory) => Status::NoMemory,
+        Ok(picks) => match data_in(alloc, words.data()) {
+            Err(NoMemory) => Status::NoMemory,
+            Ok(data) => do_task(alloc, words.task(&picks, &data), checked, source, sink),
+        },
+    }
 }
 
 /// What is due for any words and any text means what the job promises that the words ask for, where the program of the text is laid out

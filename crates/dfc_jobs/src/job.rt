@@ -2,6 +2,7 @@
 
 ghost use Rattle.std.specs.Prelude.{◌≡◌, ◌≢◌, ◌≤◌, IfSome};
 ghost use Rattle.df_io.specs.Faults.{Rose};
+ghost use Rattle.f77_tree.specs.Operations.{HasFewOperations};
 ghost use Rattle.f77_tree.specs.WellFormed.{IsWellFormed};
 ghost use Rattle.alias_classes.specs.Number.{HasFewClasses};
 ghost use Rattle.job_terms.specs.Answers.{AnswersAs, Blames, HasAll, IsUnwritten, ReadsText, code_of};
@@ -54,6 +55,7 @@ fn on_program<K: Sink>(
     requires program { IsWellFormed program.now }
     requires dialect { IsOfDialect checked program.now }
     requires few { HasFewClasses program.now }
+    requires modest { HasFewOperations program.now }
     ensures due { AnswersAs (IsDueOn (task_meant task.entry) checked program.now) (K.got sink.old) (K.got sink.new) result }
     ensures words { result ≢ Status.Usage }
     ensures reads { result ≢ Status.ReadFault }

@@ -5,27 +5,24 @@ ghost use Rattle.layout_rules.specs.Declarations.{all_commons, all_groups, all_i
 ghost use Rattle.layout_rules.specs.Executables.{is_do as is_do_of};
 ghost use Rattle.layout_rules.specs.PlacedNames.{with_places};
 
-use df_sequence::{Copied, NoMemory, Sequence};
+use df_sequence::{Copied, LongSequence, NoMemory, Sequence};
 use executable_lists::is_do;
 use f77_tree::{
-    CommonPart, CommonPartList, GroupList, InitPart, InitPartList, Labelled, MemberList,
+    AllCommonParts, AllGroups, AllInitParts, CommonPart, InitPart, Labelled, MemberList,
     NameInfoList, Stmt,
 };
 use std::alloc::Global;
 use symbol_table::Names;
 
-/// Copies of items after those of a list. A list that is full has no memory for more.
+/// Copies of items after those of a list.
 fn append<T: Copied + Drop>(
     alloc: Global,
-    list: &mut Sequence<T>,
+    list: &mut LongSequence<T>,
     items: &[T],
 ) -> Result<(), NoMemory>
     ensures { OnOk result (list.new ≡ list.old ++ items.now) }
 {
     for item in items {
-        if list.len() == u32::MAX {
-            return Err(NoMemory);
-        }
         list.push(item.copy(alloc)?)?;
     }
     Ok(())
@@ -59,10 +56,10 @@ fn inits_in(stmt: &Stmt) -> &[InitPart]
 }
 
 /// The parts of all COMMON statements.
-pub fn commons_of(alloc: Global, stmts: &[Labelled]) -> Result<CommonPartList, NoMemory>
+pub fn commons_of(alloc: Global, stmts: &[Labelled]) -> Result<AllCommonParts, NoMemory>
     ensures { IfOk result (λ commons. commons ≡ all_commons stmts.now) }
 {
-    let mut commons = Sequence::new(alloc);
+    let mut commons = LongSequence::new(alloc);
     for s in stmts {
         append(alloc, &mut commons, parts_in(&s.stmt))?;
     }
@@ -70,10 +67,10 @@ pub fn commons_of(alloc: Global, stmts: &[Labelled]) -> Result<CommonPartList, N
 }
 
 /// The groups of all EQUIVALENCE statements.
-pub(crate) fn groups_of(alloc: Global, stmts: &[Labelled]) -> Result<GroupList, NoMemory>
+pub(crate) fn groups_of(alloc: Global, stmts: &[Labelled]) -> Result<AllGroups, NoMemory>
     ensures { IfOk result (λ groups. groups ≡ all_groups stmts.now) }
 {
-    let mut groups = Sequence::new(alloc);
+    let mut groups = LongSequence::new(alloc);
     for s in stmts {
         append(alloc, &mut groups, groups_in(&s.stmt))?;
     }
@@ -81,10 +78,10 @@ pub(crate) fn groups_of(alloc: Global, stmts: &[Labelled]) -> Result<GroupList, 
 }
 
 /// The parts of all DATA statements.
-pub(crate) fn inits_of(alloc: Global, stmts: &[Labelled]) -> Result<InitPartList, NoMemory>
+pub(crate) fn inits_of(alloc: Global, stmts: &[Labelled]) -> Result<AllInitParts, NoMemory>
     ensures { IfOk result (λ inits. inits ≡ all_inits stmts.now) }
 {
-    let mut inits = Sequence::new(alloc);
+    let mut inits = LongSequence::new(alloc);
     for s in stmts {
         append(alloc, &mut inits, inits_in(&s.stmt))?;
     }

@@ -1,5 +1,5 @@
 use crate::Name;
-use df_sequence::{CharList, NumList, Sequence};
+use df_sequence::{CharList, LongSequence, NumList, Sequence};
 
 /// Bounds of the dimensions of an array.
 pub type DimList = Sequence<Dim>;
@@ -13,17 +13,26 @@ pub type LetterRangeList = Sequence<LetterRange>;
 /// Parts of COMMON statements.
 pub type CommonPartList = Sequence<CommonPart>;
 
+/// Parts of all COMMON statements of a program.
+pub type AllCommonParts = LongSequence<CommonPart>;
+
 /// Members of an EQUIVALENCE group, or items of DATA.
 pub type MemberList = Sequence<Member>;
 
 /// EQUIVALENCE groups.
 pub type GroupList = Sequence<MemberList>;
 
+/// EQUIVALENCE groups of a program.
+pub type AllGroups = LongSequence<MemberList>;
+
 /// Values of DATA.
 pub type InitValueList = Sequence<InitValue>;
 
 /// Parts of DATA statements.
 pub type InitPartList = Sequence<InitPart>;
+
+/// Parts of all DATA statements of a program.
+pub type AllInitParts = LongSequence<InitPart>;
 
 /// The characters of a character constant.
 pub type Text = CharList;

@@ -15,8 +15,9 @@ mod statements;
 mod table_laws;
 
 pub use declarations::{
-    CommonPart, CommonPartList, Decl, DeclList, Dim, DimList, GroupList, InitPart, InitPartList,
-    InitValue, InitValueList, Kind, LetterRange, LetterRangeList, Lit, Member, MemberList, Text,
+    AllCommonParts, AllGroups, AllInitParts, CommonPart, CommonPartList, Decl, DeclList, Dim,
+    DimList, GroupList, InitPart, InitPartList, InitValue, InitValueList, Kind, LetterRange,
+    LetterRangeList, Lit, Member, MemberList, Text,
 };
 pub use evaluation::{evaluate, locate};
 pub use expression_laws::{

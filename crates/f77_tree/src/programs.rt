@@ -1,4 +1,4 @@
-use crate::{Access, CommonPartList, DimList, Expr, GroupList, InitPartList, Kind, Name, Text};
+use crate::{Access, AllCommonParts, AllGroups, AllInitParts, DimList, Expr, Kind, Name, Text};
 use df_sequence::{LabelList, Sequence, WordList};
 
 /// Items of output.
@@ -100,9 +100,9 @@ pub struct Program {
     pub names: NameInfoList,
     pub words: u32,
     pub initial: WordList,
-    pub commons: CommonPartList,
-    pub groups: GroupList,
-    pub inits: InitPartList,
+    pub commons: AllCommonParts,
+    pub groups: AllGroups,
+    pub inits: AllInitParts,
     pub execs: ExecList,
     pub loops: u32,
 }

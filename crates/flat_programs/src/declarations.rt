@@ -7,7 +7,7 @@ ghost use Rattle.flat_programs.specs.Typeset.{blank, typeset};
 use crate::appending::{append, append_comma, append_number, append_signed, append_truth};
 use df_sequence::{NoMemory, NumList};
 use f77_tree::{
-    CommonPart, CommonPartList, Dim, DimList, InitPart, InitValue, InitValueList, Kind, Lit,
+    AllCommonParts, CommonPart, Dim, DimList, InitPart, InitValue, InitValueList, Kind, Lit,
     Member, MemberList, Name, NameInfo, Program,
 };
 use std::alloc::Global;
@@ -16,22 +16,22 @@ use std::alloc::Global;
 
 /// How many statements declare the names of a program: one for each name, each block of COMMON, each group of EQUIVALENCE and each
 /// part of DATA. It takes time in proportion to the square of the number of parts of COMMON.
-pub fn declaration_count(p: &Program) -> u64
+pub fn declaration_count(p: &Program) -> u128
     ensures { result ≡ length (declared p.now) }
 {
-    u64::from(p.names.len())
-        + u64::from(block_count(&p.commons))
-        + u64::from(p.groups.len())
-        + u64::from(p.inits.len())
+    u128::from(p.names.len())
+        + block_count(&p.commons) as u128
+        + p.groups.len() as u128
+        + p.inits.len() as u128
 }
 
 /// How many blocks of COMMON there are.
-fn block_count(parts: &CommonPartList) -> u32
+fn block_count(parts: &AllCommonParts) -> usize
     ensures { result ≡ length (commons parts.now) }
 {
     let mut count = 0;
     for k in 0..parts.len() {
-        count += u32::from(!is_continued(parts, k, parts.at(k)));
+        count += usize::from(!is_continued(parts, k, parts.at(k)));
     }
     count
 }
@@ -102,7 +102,7 @@ fn append_low(low: i32, out: &mut Vec<u8>) -> Result<(), NoMemory>
 // ---- COMMON
 
 /// Whether one of the first k parts has the block of this one.
-pub(crate) fn is_continued(parts: &CommonPartList, k: u32, part: &CommonPart) -> bool
+pub(crate) fn is_continued(parts: &AllCommonParts, k: usize, part: &CommonPart) -> bool
     requires { k ≤ length parts.now }
     ensures { result ≡ is_continued_in parts.now k part.now }
 {
@@ -130,7 +130,7 @@ fn is_same_block(a: &Option<Name>, b: &Option<Name>) -> bool
 /// Appends the COMMON statement of a block, with the names of all parts of that block.
 pub(crate) fn append_common(
     alloc: Global,
-    parts: &CommonPartList,
+    parts: &AllCommonParts,
     block: &Option<Name>,
     out: &mut Vec<u8>,
 ) -> Result<(), NoMemory>
@@ -167,7 +167,7 @@ fn append_block(block: &Option<Name>, out: &mut Vec<u8>) -> Result<(), NoMemory>
 
 /// Appends the names of all parts of a block, with a comma before each.
 fn append_names_of_block(
-    parts: &CommonPartList,
+    parts: &AllCommonParts,
     block: &Option<Name>,
     out: &mut Vec<u8>,
 ) -> Result<(), NoMemory>

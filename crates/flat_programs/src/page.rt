@@ -15,7 +15,7 @@ use crate::recovery::recover;
 use crate::shown::append_statement;
 use crate::{Flat, FlatList};
 use df_sequence::NoMemory;
-use f77_tree::{CommonPartList, GroupList, InitPartList, NameInfoList, Program};
+use f77_tree::{AllCommonParts, AllGroups, AllInitParts, NameInfoList, Program};
 use std::alloc::Global;
 
 /// The text of flat statements with the declarations of a program: a type statement for each name, a COMMON statement for each block,
@@ -116,7 +116,7 @@ fn put_names(alloc: Global, names: &NameInfoList, page: &mut Page) -> Result<(),
 }
 
 /// Puts a COMMON statement for each block.
-fn put_commons(alloc: Global, parts: &CommonPartList, page: &mut Page) -> Result<(), NoMemory>
+fn put_commons(alloc: Global, parts: &AllCommonParts, page: &mut Page) -> Result<(), NoMemory>
     ensures { OnOk result (Grows page.old page.new (map unlabelled (commons parts.now))) }
 {
     for k in 0..parts.len() {
@@ -128,8 +128,8 @@ fn put_commons(alloc: Global, parts: &CommonPartList, page: &mut Page) -> Result
 /// Puts the COMMON statement of the block of a part, unless a part before this one has it.
 fn put_common(
     alloc: Global,
-    parts: &CommonPartList,
-    k: u32,
+    parts: &AllCommonParts,
+    k: usize,
     page: &mut Page,
 ) -> Result<(), NoMemory>
     requires { k < length parts.now }
@@ -145,7 +145,7 @@ fn put_common(
 }
 
 /// Puts the EQUIVALENCE statements of groups.
-fn put_groups(alloc: Global, groups: &GroupList, page: &mut Page) -> Result<(), NoMemory>
+fn put_groups(alloc: Global, groups: &AllGroups, page: &mut Page) -> Result<(), NoMemory>
     ensures { OnOk result (Grows page.old page.new (map unlabelled (map group_statement groups.now))) }
 {
     for k in 0..groups.len() {
@@ -157,7 +157,7 @@ fn put_groups(alloc: Global, groups: &GroupList, page: &mut Page) -> Result<(), 
 }
 
 /// Puts the DATA statements of parts.
-fn put_inits(alloc: Global, parts: &InitPartList, page: &mut Page) -> Result<(), NoMemory>
+fn put_inits(alloc: Global, parts: &AllInitParts, page: &mut Page) -> Result<(), NoMemory>
     ensures { OnOk result (Grows page.old page.new (map unlabelled (map init_statement parts.now))) }
 {
     for k in 0..parts.len() {

@@ -3,6 +3,7 @@
 ghost use Rattle.std.specs.Prelude.{◌≡◌, ◌≢◌, ◌≤◌, []};
 ghost use Rattle.df_io.specs.Faults.{Rose};
 ghost use Rattle.alias_classes.specs.Number.{HasFewClasses};
+ghost use Rattle.f77_tree.specs.Operations.{HasFewOperations};
 ghost use Rattle.f77_tree.specs.WellFormed.{IsWellFormed};
 ghost use Rattle.flow_analysis.specs.Analysis.{IsRangeAnalysisOf};
 ghost use Rattle.job_terms.specs.Answers.{AnswersAs};
@@ -33,6 +34,7 @@ pub fn play_forks<K: Sink>(
 ) -> Status
     requires program { IsWellFormed program.now }
     requires few { HasFewClasses program.now }
+    requires modest { HasFewOperations program.now }
     ensures due { AnswersAs (IsDuePlay fork_game (told_by_forks nodes) (asked_in asked.entry) program.now) (K.got sink.old) (K.got sink.new) result }
     ensures usage { result ≢ Status.Usage }
     ensures reads { result ≢ Status.ReadFault }
@@ -63,6 +65,7 @@ fn play_in_turn<K: Sink>(
     requires in_turn { asked.picks.now ≡ [] }
     requires program { IsWellFormed program.now }
     requires analysis { IsRangeAnalysisOf program.now analysis.now }
+    requires modest { HasFewOperations program.now }
     ensures due { AnswersAs (IsDuePlay fork_game (told_by_forks nodes) (asked_in asked.entry) program.now) (K.got sink.old) (K.got sink.new) result }
     ensures usage { result ≢ Status.Usage }
     ensures reads { result ≢ Status.ReadFault }
@@ -87,6 +90,7 @@ fn play_by_picks<K: Sink>(
 ) -> Status
     requires program { IsWellFormed program.now }
     requires analysis { IsRangeAnalysisOf program.now analysis.now }
+    requires modest { HasFewOperations program.now }
     ensures due { AnswersAs (IsDuePlay fork_game (told_by_forks nodes) (asked_in asked.entry) program.now) (K.got sink.old) (K.got sink.new) result }
     ensures usage { result ≢ Status.Usage }
     ensures reads { result ≢ Status.ReadFault }

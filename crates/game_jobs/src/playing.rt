@@ -3,6 +3,7 @@
 ghost use Rattle.std.specs.Prelude.{◌≡◌, ◌≢◌, ◌≤◌, IfOk};
 ghost use Rattle.df_io.specs.Faults.{Rose};
 ghost use Rattle.alias_classes.specs.Number.{HasFewClasses};
+ghost use Rattle.f77_tree.specs.Operations.{HasFewOperations};
 ghost use Rattle.f77_tree.specs.WellFormed.{IsWellFormed};
 ghost use Rattle.flow_analysis.specs.Analysis.{IsRangeAnalysisOf};
 ghost use Rattle.job_terms.specs.Answers.{AnswersAs};
@@ -33,6 +34,7 @@ pub fn play<K: Sink>(
 ) -> Status
     requires program { IsWellFormed program.now }
     requires few { HasFewClasses program.now }
+    requires modest { HasFewOperations program.now }
     ensures due { AnswersAs (IsDuePlay operation_game told (asked_in asked.entry) program.now) (K.got sink.old) (K.got sink.new) result }
     ensures usage { result ≢ Status.Usage }
     ensures reads { result ≢ Status.ReadFault }
@@ -54,6 +56,7 @@ pub fn net_over<'a>(
 ) -> Result<OpNet<'a, CLASS_WORDS>, NoMemory>
     requires program { IsWellFormed program.now }
     requires analysis { IsRangeAnalysisOf program.now analysis.now }
+    requires modest { HasFewOperations program.now }
     ensures { IfOk result (λ net. IsOpeningNet program.now input.now.items net) }
 {
     are_net_parts(program, analysis);
@@ -80,6 +83,7 @@ fn play_net<K: Sink>(
 ) -> Status
     requires program { IsWellFormed program.now }
     requires analysis { IsRangeAnalysisOf program.now analysis.now }
+    requires modest { HasFewOperations program.now }
     ensures due { AnswersAs (IsDuePlay operation_game told (asked_in asked.entry) program.now) (K.got sink.old) (K.got sink.new) result }
     ensures usage { result ≢ Status.Usage }
     ensures reads { result ≢ Status.ReadFault }

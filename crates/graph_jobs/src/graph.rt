@@ -2,6 +2,7 @@
 
 ghost use Rattle.std.specs.Prelude.{◌≡◌, ◌≢◌, ◌≤◌, [], IfOk};
 ghost use Rattle.df_io.specs.Faults.{Rose};
+ghost use Rattle.f77_tree.specs.Operations.{HasFewOperations};
 ghost use Rattle.f77_tree.specs.WellFormed.{IsWellFormed};
 ghost use Rattle.alias_classes.specs.Number.{HasFewClasses};
 ghost use Rattle.job_terms.specs.Answers.{AnswersAs};
@@ -34,6 +35,7 @@ struct Drawn<'a> {
 pub fn tell_graph<K: Sink>(alloc: Global, program: &Program, sink: &mut K) -> Status
     requires program { IsWellFormed program.now }
     requires few { HasFewClasses program.now }
+    requires modest { HasFewOperations program.now }
     ensures due { AnswersAs (IsDoneBy (TellsGraph program.now)) (K.got sink.old) (K.got sink.new) result }
     ensures words { result ≢ Status.Usage }
     ensures reads { result ≢ Status.ReadFault }
@@ -70,6 +72,7 @@ fn tell_net<K: Sink>(
     sink: &mut K,
 ) -> Status
     requires program { IsWellFormed program.now }
+    requires modest { HasFewOperations program.now }
     requires drawn { IsDrawnOf program.now drawn.old }
     ensures due { AnswersAs (IsDoneBy (TellsGraph program.now)) (K.got sink.old) (K.got sink.new) result }
     ensures words { result ≢ Status.Usage }
@@ -77,32 +80,27 @@ fn tell_net<K: Sink>(
     ensures later { K.faults sink.old ≤ K.faults sink.new }
     ensures fault { result ≡ Status.WriteFault → Rose (K.faults sink.old) (K.faults sink.new) }
 {
-    let analysis = &drawn.analysis;
+    let found = &drawn.analysis;
     let sets = drawn.name_sets.as_slice();
-    let Ok(net) = OpGraph::new(
+    let made = OpGraph::new(
         alloc,
         program,
-        &analysis.flow,
-        &analysis.classes,
-        &analysis.touch,
-        &analysis.lines,
+        &found.flow,
+        &found.classes,
+        &found.touch,
+        &found.lines,
         &drawn.input,
-    ) else {
-        return Status::NoMemory;
-    };
-    let Ok(tables) = tables_of_edges(alloc, analysis.flow.graph(), &analysis.lines) else {
-        return Status::NoMemory;
-    };
-    match write_graph(
-        program,
-        analysis,
-        sets,
-        &tables,
-        &net,
-        &mut drawn.buffer,
-        sink,
-    ) {
-        Ok(()) => Status::Done,
-        Err(WriteFault) => Status::WriteFault,
+    );
+    match made {
+        Err(NoMemory) => Status::NoMemory,
+        Ok(net) => match tables_of_edges(alloc, found.flow.graph(), &found.lines) {
+            Err(NoMemory) => Status::NoMemory,
+            Ok(tables) => {
+                match write_graph(program, found, sets, &tables, &net, &mut drawn.buffer, sink) {
+                    Ok(()) => Status::Done,
+                    Err(WriteFault) => Status::WriteFault,
+                }
+            }
+        },
     }
 }

@@ -1,6 +1,7 @@
 ghost use Rattle.std.specs.Prelude.{◌≡◌, ◌≤◌, length, IfOk, IfSome, IsErrOf};
 ghost use Rattle.df_io.specs.Faults.{Rose};
 ghost use Rattle.f77_tree.specs.Dialects.{IsOfDialect};
+ghost use Rattle.f77_tree.specs.Operations.{HasFewOperations};
 ghost use Rattle.f77_tree.specs.WellFormed.{IsWellFormed};
 ghost use Rattle.alias_classes.specs.Number.{HasFewClasses};
 ghost use Rattle.f77_source.specs.Reading.{IsProgramOf};
@@ -101,6 +102,7 @@ pub fn read_program<S: Source>(
     ensures well_formed { IfOk result (λ program. IsWellFormed program) }
     ensures dialect { IfOk result (λ program. IsOfDialect checked program) }
     ensures few { IfOk result (λ program. HasFewClasses program) }
+    ensures modest { IfOk result (λ program. HasFewOperations program) }
     ensures taken { IsReadFor (S.left source.old) (S.left source.new) result }
     ensures within { IsReadWithin (S.left source.old) (S.left source.new) }
 
@@ -124,6 +126,7 @@ pub fn read_bytes(alloc: Global, bytes: &[u8], checked: bool) -> Result<Program,
     ensures reads { IsReadAs (reading checked bytes.now) result }
     ensures well_formed { IfOk result (λ program. IsWellFormed program) }
     ensures few { IfOk result (λ program. HasFewClasses program) }
+    ensures modest { IfOk result (λ program. HasFewOperations program) }
     ensures read { IsErrOf result NoProgram.ReadFault → ⊥ }
 {
     if bytes.len() > MOST_BYTES as usize {
@@ -143,6 +146,7 @@ fn read_text(alloc: Global, bytes: &[u8], checked: bool) -> Result<Program, NoPr
     ensures well_formed { IfOk result (λ program. IsWellFormed program) }
     ensures dialect { IfOk result (λ program. IsOfDialect checked program) }
     ensures few { IfOk result (λ program. HasFewClasses program) }
+    ensures modest { IfOk result (λ program. HasFewOperations program) }
     ensures read { IsErrOf result NoProgram.ReadFault → ⊥ }
 {
     programs_are_read_in_their_dialect();

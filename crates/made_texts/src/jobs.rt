@@ -8,7 +8,16 @@ use df_io::{NeverSource, NoMemory};
 use dfc_driver::dfc_main;
 use std::alloc::Global;
 
-/// Appends what `dfc` prints for these words on a text, and answers the status that it ends with. That is 6 or 7 where there is no memory.
+/// What `dfc` ends with where its sink failed, and where there is no memory.
+const UNWRITTEN: u8 = 6;
+
+const NO_MEMORY: u8 = 7;
+
+/// Appends what `dfc` prints for these words on a text, and answers the status that it ends with.
+///
+/// # Errors
+///
+/// `NoMemory`, also where there is none for what is printed.
 pub fn print_job(
     alloc: Global,
     words: &Vec<String>,
@@ -16,8 +25,12 @@ pub fn print_job(
     sink: &mut TextSink,
 ) -> Result<u8, NoMemory>
     ensures due { IfOk result (λ status. Answers (IsDue (map string_bytes words.now.items) text.now) (Some sink.old.text) (Some sink.new.text) status) }
-    ensures bound { IfOk result (λ status. status ≤ 7) }
+    ensures bound { IfOk result (λ status. status ≤ 4) }
 {
     let mut source = NeverSource::new(alloc, text)?;
-    Ok(dfc_main(alloc, words, &mut source, sink))
+    match dfc_main(alloc, words, &mut source, sink) {
+        UNWRITTEN => Err(sink.refusal()),
+        NO_MEMORY => Err(NoMemory),
+        status => Ok(status),
+    }
 }

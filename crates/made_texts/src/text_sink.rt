@@ -1,4 +1,4 @@
-use df_io::{Failed, Sink};
+use df_io::{Failed, NoMemory, Sink};
 use std::alloc::Global;
 use std::marker::Model;
 
@@ -7,18 +7,23 @@ use std::marker::Model;
 pub struct TextSink {
     text: Vec<u8>,
     faults: u64,
+    /// What a write was refused that failed, if one did.
+    refused: Option<NoMemory>,
 }
 
 impl Model for TextSink {
+    ghost use Rattle.std.specs.Prelude.{◌≡◌, ◌<◌, true, is_some};
     ghost use Rattle.made_texts.specs.TextSink.{TextState};
 
     ghost Value = { TextState };
 
     ghost view = { λ s. record { text = s.text.items; faults = s.faults } };
+
+    ghost invariant = { λ s. 0 < s.faults → is_some s.refused ≡ true };
 }
 
 impl TextSink {
-    ghost use Rattle.std.specs.Prelude.{◌≡◌, []};
+    ghost use Rattle.std.specs.Prelude.{◌≡◌, ◌<◌, []};
 
     /// A sink that has taken nothing.
     pub fn new(alloc: Global) -> TextSink
@@ -27,6 +32,7 @@ impl TextSink {
         TextSink {
             text: Vec::new(alloc),
             faults: 0,
+            refused: None,
         }
     }
 
@@ -35,6 +41,16 @@ impl TextSink {
         ensures { result.now ≡ self.now.text }
     {
         self.text.as_slice()
+    }
+
+    /// What a write was refused, where one failed.
+    pub(crate) fn refusal(&self) -> NoMemory
+        requires { 0 < self.now.faults }
+    {
+        match self.refused {
+            Some(NoMemory) => NoMemory,
+            None => unreachable!(),
+        }
     }
 }
 
@@ -56,8 +72,9 @@ impl Sink for TextSink {
     {
         match self.text.extend_from_slice(from) {
             Ok(()) => Ok(from.len()),
-            Err(_) => {
+            Err(refused) => {
                 self.faults = self.faults.saturating_add(1);
+                self.refused = Some(refused.into());
                 Err(Failed)
             }
         }

@@ -100,6 +100,6 @@ fn print_command(
         LIMITED => Ok(LIMITED),
         USAGE => Err(Fault::Usage),
         REFUSED => Err(Fault::Refused),
-        _ => Err(Fault::NoMemory),
+        _ => unreachable!(),
     }
 }

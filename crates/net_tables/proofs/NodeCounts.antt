@@ -20,7 +20,7 @@ module _ (net : NetOf) (few : net.routing.lines ≤ 1024) where
   led_few piece = omega (arith, few, filtered (is_free net piece) (all_lines net), length-range_with_len 0 net.routing.lines)
 
   -- a node for what the piece does, and one for each line
-  by_few : (piece : ℕ) (k : PieceKind) → length (nodes_by net piece k) ≤ 1025
+  pub by_few : (piece : ℕ) (k : PieceKind) → length (nodes_by net piece k) ≤ 1025
   by_few piece kind.Act = omega arith
   by_few piece kind.Branch = omega (arith, passing_few piece, length-map (passing net piece) (Switch piece))
   by_few piece kind.Hold = omega (arith, passing_few piece, length-map (passing net piece) (Switch piece))

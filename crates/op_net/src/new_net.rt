@@ -2,6 +2,7 @@
 
 ghost use Rattle.std.specs.Prelude.{◌≡◌, ◌≤◌, [], ℕ, Some, false, length, IfOk};
 ghost use Rattle.class_set.specs.Members.{IsWidth};
+ghost use Rattle.f77_tree.specs.Operations.{HasFewOperations};
 ghost use Rattle.cfg_build.specs.Flow.{flow as flow_graph};
 ghost use Rattle.dep_routing.specs.Touch.{touches_in};
 ghost use Rattle.firing.specs.Control.{IsInStep};
@@ -45,6 +46,7 @@ impl<'a, const W: usize> OpNet<'a, W> {
         requires width { IsWidth W }
         requires parts { AreOperationParts p.now f.now c.now (touches_in touch.now) l.now }
         requires sets { length touch.now ≡ (flow_graph p.now.execs).graph.nodes }
+        requires modest { HasFewOperations p.now }
         ensures net { IfOk result (λ n. (net_of n).net ≡ net_with p.now input.now.items (touches_in touch.now) l.now) }
         ensures is_net { IfOk result (λ n. IsOperationNet (net_of n)) }
         ensures outside_pieces { IfOk result (λ n. (piece i line : ℕ) → (graph_in (net_of n).net).nodes ≤ piece → (net_of n).needs piece i line ≡ false) }

@@ -1,5 +1,5 @@
 -- What an operation needs of a program.
-use Rattle.std.specs.Prelude.{◌≡◌, ℕ, ◌<◌, length}
+use Rattle.std.specs.Prelude.{◌≡◌, ℕ, ◌<◌, ◌≤◌, length}
 use Rattle.op_table.specs.Operators.{arity_of}
 use Rattle.f77_tree.specs.declared.programs.Program.{Program}
 use Rattle.f77_tree.specs.Value.{IsAccess, place_of}
@@ -22,5 +22,7 @@ CanWork p (Begin loop_no var) operands = IsLoop p loop_no var
 CanWork p (Advance loop_no var) operands = IsLoop p loop_no var
 CanWork p _ operands = Unit {0}
 
-abbrev pub CanPerform : Program → Operation → Type 0
-CanPerform p op = CanWork p op.work (length op.operands.items)
+-- an operation can work, and takes no more operands than an executable may have operations
+pub record CanPerform (p : Program) (op : Operation) : Type 0 where
+  pub work : CanWork p op.work (length op.operands.items)
+  pub few : length op.operands.items ≤ 500

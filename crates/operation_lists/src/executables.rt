@@ -1,8 +1,9 @@
 //! The operations of the pieces of a program.
 
-ghost use Rattle.std.specs.Prelude.{◌≡◌, [], ◌∷◌, All, length, map, slice_get, IfOk, OnOk};
+ghost use Rattle.std.specs.Prelude.{◌≡◌, ◌+◌, ◌^◌, ◌<◌, ◌≤◌, [], ◌∷◌, sum_by, All, length, map, slice_get, IfOk, OnOk};
 ghost use Rattle.cfg_build.specs.Passes.{kind_in};
 ghost use Rattle.f77_tree.specs.CanRun.{CanExecute, CanPrint, CanRun};
+ghost use Rattle.f77_tree.specs.Operations.{HasFewOperations, access_operations, exec_operations, item_operations, operations};
 ghost use Rattle.f77_tree.specs.Value.{ArePlaced, IsAccess, IsExpression};
 ghost use Rattle.op_board.specs.Operations.{act_operations, assign_operations, begin_operations, branch_operations, decide_operations, ended, items_compiled, operations_of, print_operations};
 ghost use Rattle.operation_lists.specs.CanPerform.{CanPerform, CanWork, IsLoop};
@@ -20,15 +21,17 @@ use smallvec::SmallVec;
 use std::alloc::Global;
 
 /// The operations of a piece, in the order in which they are evaluated. A piece whose executable is none of the program has
-/// those of the end. It answers NoMemory too where the operations would have no numbers of 32 bits.
+/// those of the end.
 pub fn piece_operations<'a>(
     alloc: Global,
     p: &'a Program,
     piece: Piece,
 ) -> Result<Vec<Operation<'a>>, NoMemory>
-    requires { CanRun p.now }
+    requires can_run { CanRun p.now }
+    requires modest { HasFewOperations p.now }
     ensures operations { IfOk result (λ done. map operation_seen done.items ≡ operations_of p.now.names piece.kind (kind_in (slice_get p.now.execs piece.exec))) }
     ensures can { IfOk result (λ done. All (CanPerform p.now) done.items) }
+    ensures few { IfOk result (λ done. length done.items ≤ 500) }
 {
     if piece.exec < p.execs.len() {
         return operations_of(alloc, p, piece.kind, &p.execs.at(piece.exec).kind);
@@ -48,8 +51,10 @@ fn operations_of<'a>(
 ) -> Result<Vec<Operation<'a>>, NoMemory>
     requires exec { CanExecute p.now exec.now }
     requires places { ArePlaced p.now.names p.now.words }
+    requires modest { exec_operations exec.now ≤ 500 }
     ensures operations { IfOk result (λ done. map operation_seen done.items ≡ operations_of p.now.names kind exec.now) }
     ensures can { IfOk result (λ done. All (CanPerform p.now) done.items) }
+    ensures few { IfOk result (λ done. length done.items ≤ 500) }
 {
     match kind {
         PieceKind::Act => act_operations(alloc, p, exec),
@@ -68,6 +73,7 @@ fn lone_operation<'a>(
     requires { CanWork p.now work 0 }
     ensures operations { IfOk result (λ done. map operation_seen done.items ≡ ended [] (work_seen work.entry) []) }
     ensures can { IfOk result (λ done. All (CanPerform p.now) done.items) }
+    ensures few { IfOk result (λ done. length done.items ≤ 500) }
 {
     let mut done = Vec::new(alloc);
     end_with(p, &mut done, work, SmallVec::new(alloc))?;
@@ -82,9 +88,12 @@ fn end_with<'a>(
     operands: Operands,
 ) -> Result<(), NoMemory>
     requires work { CanWork p.now work (length operands.items) }
+    requires room { length done.old.items < 2 ^ 32 }
+    requires short { length operands.items ≤ 500 }
     requires can { All (CanPerform p.now) done.old.items }
     ensures operations { OnOk result (map operation_seen done.new.items ≡ ended (map operation_seen done.old.items) (work_seen work.entry) (map operand_seen operands.items)) }
     ensures can { OnOk result (All (CanPerform p.now) done.new.items) }
+    ensures few { OnOk result (length done.new.items ≡ length done.old.items + 1) }
 {
     let _operand = push_operation(done, work, operands)?;
     Ok(())
@@ -98,8 +107,10 @@ fn act_operations<'a>(
 ) -> Result<Vec<Operation<'a>>, NoMemory>
     requires kind { CanExecute p.now kind.now }
     requires places { ArePlaced p.now.names p.now.words }
+    requires modest { exec_operations kind.now ≤ 500 }
     ensures operations { IfOk result (λ done. map operation_seen done.items ≡ act_operations p.now.names kind.now) }
     ensures can { IfOk result (λ done. All (CanPerform p.now) done.items) }
+    ensures few { IfOk result (λ done. length done.items ≤ 500) }
 {
     match kind {
         ExecKind::Assign { target, value, .. } => assign_operations(alloc, p, target, value),
@@ -129,8 +140,10 @@ fn assign_operations<'a>(
     requires target { IsAccess p.now.names target.now }
     requires value { IsExpression p.now.names value.now }
     requires places { ArePlaced p.now.names p.now.words }
+    requires modest { access_operations target.now + operations value.now ≤ 500 }
     ensures operations { IfOk result (λ done. map operation_seen done.items ≡ assign_operations p.now.names target.now value.now) }
     ensures can { IfOk result (λ done. All (CanPerform p.now) done.items) }
+    ensures few { IfOk result (λ done. length done.items ≤ 500) }
 {
     let mut done = Vec::new(alloc);
     let place = compile_place(alloc, p, &mut done, target)?;
@@ -149,8 +162,10 @@ fn print_operations<'a>(
 ) -> Result<Vec<Operation<'a>>, NoMemory>
     requires items { All (CanPrint p.now.names) items.now }
     requires places { ArePlaced p.now.names p.now.words }
+    requires modest { sum_by item_operations items.now ≤ 500 }
     ensures operations { IfOk result (λ done. map operation_seen done.items ≡ print_operations p.now.names items.now) }
     ensures can { IfOk result (λ done. All (CanPerform p.now) done.items) }
+    ensures few { IfOk result (λ done. length done.items ≤ 500) }
 {
     let mut done = Vec::new(alloc);
     let operands = compile_items(alloc, p, &mut done, items)?;
@@ -159,6 +174,7 @@ fn print_operations<'a>(
 }
 
 // Appends the operations of items of output, and answers the operands that their values are.
+#[tactic(auto, using(crate::proofs::ListLemmas::sum_left))]
 fn compile_items<'a>(
     alloc: Global,
     p: &'a Program,
@@ -168,8 +184,11 @@ fn compile_items<'a>(
     requires items { All (CanPrint p.now.names) items.now }
     requires places { ArePlaced p.now.names p.now.words }
     requires can { All (CanPerform p.now) done.old.items }
+    requires room { length done.old.items + sum_by item_operations items.now < 2 ^ 32 }
     ensures compiled { IfOk result (λ operands. row_seen done.new.items operands.items ≡ items_compiled p.now.names (map operation_seen done.old.items) items.now) }
     ensures can { OnOk result (All (CanPerform p.now) done.new.items) }
+    ensures few { OnOk result (length done.new.items + length items.now ≤ length done.old.items + sum_by item_operations items.now) }
+    ensures short { IfOk result (λ operands. length operands.items ≤ length items.now) }
 {
     let mut operands = SmallVec::new(alloc);
     for item in items.as_slice() {
@@ -189,8 +208,11 @@ fn compile_item<'a>(
     requires item { CanPrint p.now.names item.now }
     requires places { ArePlaced p.now.names p.now.words }
     requires can { All (CanPerform p.now) done.old.items }
+    requires room { length done.old.items + item_operations item.now < 2 ^ 32 }
     ensures compiled { OnOk result (row_seen done.new.items operands.new.items ≡ row_after (map operand_seen operands.old.items) (items_compiled p.now.names (map operation_seen done.old.items) (item.now ∷ []))) }
     ensures can { OnOk result (All (CanPerform p.now) done.new.items) }
+    ensures few { OnOk result (length done.new.items + 1 ≤ length done.old.items + item_operations item.now) }
+    ensures short { OnOk result (length operands.new.items ≤ length operands.old.items + 1) }
 {
     if let Item::Value(e) = item {
         let operand = compile(alloc, p, done, e)?;
@@ -214,8 +236,10 @@ fn begin_operations<'a>(
     requires last { IsExpression p.now.names last.now }
     requires step { IsExpression p.now.names step.now }
     requires places { ArePlaced p.now.names p.now.words }
+    requires modest { 4 + operations first.now + operations last.now + operations step.now ≤ 500 }
     ensures operations { IfOk result (λ done. map operation_seen done.items ≡ begin_operations p.now.names loop_no var first.now last.now step.now) }
     ensures can { IfOk result (λ done. All (CanPerform p.now) done.items) }
+    ensures few { IfOk result (λ done. length done.items ≤ 500) }
 {
     let mut done = Vec::new(alloc);
     let a = compile(alloc, p, &mut done, first)?;
@@ -236,8 +260,10 @@ fn branch_operations<'a>(
 ) -> Result<Vec<Operation<'a>>, NoMemory>
     requires kind { CanExecute p.now kind.now }
     requires places { ArePlaced p.now.names p.now.words }
+    requires modest { exec_operations kind.now ≤ 500 }
     ensures operations { IfOk result (λ done. map operation_seen done.items ≡ branch_operations p.now.names kind.now) }
     ensures can { IfOk result (λ done. All (CanPerform p.now) done.items) }
+    ensures few { IfOk result (λ done. length done.items ≤ 500) }
 {
     match kind {
         ExecKind::Test { cond, .. } => decide_operations(alloc, p, Work::DecideTruth, cond),
@@ -262,8 +288,10 @@ fn decide_operations<'a>(
     requires work { CanWork p.now work 1 }
     requires selector { IsExpression p.now.names selector.now }
     requires places { ArePlaced p.now.names p.now.words }
+    requires modest { 1 + operations selector.now ≤ 500 }
     ensures operations { IfOk result (λ done. map operation_seen done.items ≡ decide_operations p.now.names (work_seen work.entry) selector.now) }
     ensures can { IfOk result (λ done. All (CanPerform p.now) done.items) }
+    ensures few { IfOk result (λ done. length done.items ≤ 500) }
 {
     let mut done = Vec::new(alloc);
     let operand = compile(alloc, p, &mut done, selector)?;

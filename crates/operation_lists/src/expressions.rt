@@ -1,7 +1,8 @@
 //! The operations of expressions, in the order in which these are evaluated.
 
-ghost use Rattle.std.specs.Prelude.{◌≡◌, ◌<ℤ◌, ◌≤ℤ◌, pos, All, length, map, IfOk, OnOk};
+ghost use Rattle.std.specs.Prelude.{◌≡◌, ◌+◌, ◌^◌, ◌<◌, ◌≤◌, ◌<ℤ◌, ◌≤ℤ◌, pos, sum_by, All, length, map, IfOk, OnOk};
 ghost use Rattle.op_table.specs.Operators.{arity_of};
+ghost use Rattle.f77_tree.specs.Operations.{access_operations, operations};
 ghost use Rattle.f77_tree.specs.Value.{extent, ArePlaced, IsAccess, IsExpression};
 ghost use Rattle.op_board.specs.Operations.{compiled, place_moved, place_of_read, place_operands};
 ghost use Rattle.operation_lists.specs.CanPerform.{CanPerform};
@@ -27,8 +28,10 @@ pub(crate) fn compile<'a>(
     requires expression { IsExpression p.now.names e.now }
     requires places { ArePlaced p.now.names p.now.words }
     requires can { All (CanPerform p.now) done.old.items }
+    requires room { length done.old.items + operations e.now < 2 ^ 32 }
     ensures compiled { IfOk result (λ operand. compiled_seen done.new.items operand ≡ compiled p.now.names (map operation_seen done.old.items) e.now) }
     ensures can { OnOk result (All (CanPerform p.now) done.new.items) }
+    ensures few { OnOk result (length done.new.items ≤ length done.old.items + operations e.now) }
 {
     match e {
         Expr::Const(z) => Ok(Operand::Known(*z)),
@@ -57,8 +60,10 @@ fn compile_load<'a>(
     requires access { IsAccess p.now.names access.now }
     requires places { ArePlaced p.now.names p.now.words }
     requires can { All (CanPerform p.now) done.old.items }
+    requires room { length done.old.items + access_operations access.now < 2 ^ 32 }
     ensures compiled { IfOk result (λ operand. compiled_seen done.new.items operand ≡ compiled p.now.names (map operation_seen done.old.items) (Expr.Read access.now)) }
     ensures can { OnOk result (All (CanPerform p.now) done.new.items) }
+    ensures few { OnOk result (length done.new.items ≤ length done.old.items + access_operations access.now) }
 {
     let place = compile_place(alloc, p, done, access)?;
     let operands = place_operands(alloc, access, place)?;
@@ -76,9 +81,11 @@ fn compile_all<'a>(
     requires expressions { All (IsExpression p.now.names) es.now }
     requires places { ArePlaced p.now.names p.now.words }
     requires can { All (CanPerform p.now) done.old.items }
+    requires room { length done.old.items + sum_by operations es.now < 2 ^ 32 }
     ensures compiled { IfOk result (λ operands. row_seen done.new.items operands.items ≡ operands_compiled p.now.names (map operation_seen done.old.items) es.now) }
     ensures as_many { IfOk result (λ operands. length operands.items ≡ length es.now) }
     ensures can { OnOk result (All (CanPerform p.now) done.new.items) }
+    ensures few { OnOk result (length done.new.items ≤ length done.old.items + sum_by operations es.now) }
 {
     let mut operands = SmallVec::new(alloc);
     for e in es.as_slice() {
@@ -99,8 +106,10 @@ pub(crate) fn compile_place<'a>(
     requires access { IsAccess p.now.names access.now }
     requires places { ArePlaced p.now.names p.now.words }
     requires can { All (CanPerform p.now) done.old.items }
+    requires room { length done.old.items + sum_by (λ e. 2 + operations e) access.now.subs < 2 ^ 32 }
     ensures compiled { IfOk result (λ place. compiled_seen done.new.items place ≡ place_of_read p.now.names (map operation_seen done.old.items) (Expr.Read access.now)) }
     ensures can { OnOk result (All (CanPerform p.now) done.new.items) }
+    ensures few { OnOk result (length done.new.items ≤ length done.old.items + sum_by (λ e. 2 + operations e) access.now.subs) }
 {
     let dims = p.names.at(access.name).dims.as_slice();
     let mut place = Operand::Known(0);
@@ -129,8 +138,10 @@ fn compile_subscript<'a>(
     requires expression { IsExpression p.now.names sub.now }
     requires places { ArePlaced p.now.names p.now.words }
     requires can { All (CanPerform p.now) done.old.items }
+    requires room { length done.old.items + (2 + operations sub.now) < 2 ^ 32 }
     ensures compiled { IfOk result (λ operand. compiled_seen done.new.items operand ≡ place_moved (operand_seen place) dim.now size (compiled p.now.names (map operation_seen done.old.items) sub.now)) }
     ensures can { OnOk result (All (CanPerform p.now) done.new.items) }
+    ensures few { OnOk result (length done.new.items ≤ length done.old.items + (2 + operations sub.now)) }
 {
     let v = compile(alloc, p, done, sub)?;
     move_place(alloc, done, place, dim, size, v)
@@ -142,7 +153,8 @@ pub(crate) fn place_operands(
     access: &Access,
     place: Operand,
 ) -> Result<Operands, NoMemory>
-    ensures { IfOk result (λ operands. map operand_seen operands.items ≡ place_operands access.now.subs (operand_seen place)) }
+    ensures operands { IfOk result (λ operands. map operand_seen operands.items ≡ place_operands access.now.subs (operand_seen place)) }
+    ensures few { IfOk result (λ operands. length operands.items ≤ 1) }
 {
     if access.subs.is_empty() {
         Ok(SmallVec::new(alloc))
@@ -164,7 +176,8 @@ fn width(dim: &Dim) -> i32
 fn access_fits(p: &Program, e: &Expr, a: &Access)
     requires form { e.now ≡ Expr.Read a.now }
     requires expression { IsExpression p.now.names e.now }
-    ensures { IsAccess p.now.names a.now }
+    ensures access { IsAccess p.now.names a.now }
+    ensures count { operations e.now ≡ access_operations a.now }
 {}
 
 // As many operands as the operator takes fit the table of names with the expression.
@@ -173,4 +186,5 @@ fn operands_fit(p: &Program, e: &Expr, op: Op, args: &ExprList)
     requires expression { IsExpression p.now.names e.now }
     ensures as_many { length args.now ≡ arity_of op }
     ensures operands { All (IsExpression p.now.names) args.now }
+    ensures count { operations e.now ≡ 1 + sum_by operations args.now }
 {}

@@ -1,6 +1,6 @@
 //! The operations of a piece, as they are compiled.
 
-ghost use Rattle.std.specs.Prelude.{◌≡◌, [], ◌∷◌, All, length, map, IfOk, OnOk};
+ghost use Rattle.std.specs.Prelude.{◌≡◌, ◌+◌, ◌^◌, ◌<◌, ◌≤◌, [], ◌∷◌, All, length, map, IfOk, OnOk};
 ghost use Rattle.f77_tree.specs.declared.programs.Program.{Program};
 ghost use Rattle.op_board.specs.Operations.{gives_value, is_decision, known_of, with_operation};
 ghost use Rattle.operation_lists.specs.CanPerform.{CanPerform, CanWork};
@@ -74,12 +74,13 @@ pub(crate) fn push_operation<'a>(
     work: Work<'a>,
     operands: Operands,
 ) -> Result<Operand, NoMemory>
+    requires room { length done.old.items < 2 ^ 32 }
+    requires short { length operands.items ≤ 500 }
     ensures compiled { IfOk result (λ operand. compiled_seen done.new.items operand ≡ with_operation (map operation_seen done.old.items) (work_seen work.entry) (map operand_seen operands.items)) }
     ensures can { OnOk result ((p : Program) → All (CanPerform p) done.old.items → CanWork p work.entry (length operands.items) → All (CanPerform p) done.new.items) }
+    ensures few { OnOk result (length done.new.items ≡ length done.old.items + 1) }
 {
-    let Ok(number) = u32::try_from(done.len()) else {
-        return Err(NoMemory);
-    };
+    let number = done.len() as u32;
     done.push(Operation { work, operands })?;
     Ok(Operand::Node(number))
 }

@@ -1,6 +1,6 @@
 //! The operations of operators, of which one whose value is known is none.
 
-ghost use Rattle.std.specs.Prelude.{◌≡◌, ◌≤◌, All, length, map, take, IfOk, OnOk};
+ghost use Rattle.std.specs.Prelude.{◌≡◌, ◌+◌, ◌^◌, ◌<◌, ◌≤◌, All, length, map, take, IfOk, OnOk};
 ghost use Rattle.f77_tree.specs.declared.programs.Program.{Program};
 ghost use Rattle.op_table.specs.Known.{folded};
 ghost use Rattle.op_table.specs.Operators.{arity_of};
@@ -48,8 +48,10 @@ pub(crate) fn operate<'a>(
     operands: Operands,
 ) -> Result<Operand, NoMemory>
     requires arity { length operands.items ≡ arity_of op }
+    requires room { length done.old.items < 2 ^ 32 }
     ensures compiled { IfOk result (λ operand. compiled_seen done.new.items operand ≡ operated (map operation_seen done.old.items) op (map operand_seen operands.items)) }
     ensures can { OnOk result ((p : Program) → All (CanPerform p) done.old.items → All (CanPerform p) done.new.items) }
+    ensures few { OnOk result (length done.new.items ≤ length done.old.items + 1) }
 {
     match folded(op, operands.as_slice()) {
         Some(z) => Ok(Operand::Known(z)),
@@ -67,8 +69,10 @@ pub(crate) fn move_place<'a>(
     size: i32,
     v: Operand,
 ) -> Result<Operand, NoMemory>
+    requires room { length done.old.items + 2 < 2 ^ 32 }
     ensures compiled { IfOk result (λ operand. compiled_seen done.new.items operand ≡ place_moved (operand_seen place) dim.now size (compiled_seen done.old.items v)) }
     ensures can { OnOk result ((p : Program) → All (CanPerform p) done.old.items → All (CanPerform p) done.new.items) }
+    ensures few { OnOk result (length done.new.items ≤ length done.old.items + 2) }
 {
     let bounds = three_operands(alloc, v, Operand::Known(dim.lo), Operand::Known(dim.hi))?;
     let offset = operate(done, Op::Bound, bounds)?;

@@ -52,7 +52,7 @@ module _ (x : OperationNet) where
     made_count : length made.rows.items ≡ operation_count x n
     made_count = ∥∥₁_elim new (Prim.hlevel props) (λ (own : AreRows x n made). own.count)
 
-    all_count : length (rows ++ made.rows.items) ≡ rows_before x n + operation_count x n
+    pub all_count : length (rows ++ made.rows.items) ≡ rows_before x n + operation_count x n
     all_count = let l = length-append rows made.rows.items in let count = are.count in omega (arith, l, count, made_count)
 
     row_more : (piece i : ℕ) (row : Row) → piece < suc n → i < operation_count x piece → slice_get (rows ++ made.rows.items) (rows_before x piece + i) ≡ Some row → ∥ IsRow x piece i row ∥₁
@@ -81,11 +81,11 @@ module _ (x : OperationNet) where
         subst (λ (o : Option (Vec ℕ Global)). ∥ EntryIs x piece line (entry_in o place) ∥₁) (sym at) (∥∥₁_map own (λ (all : AreRows x piece made). all.entries acts place line there)))
         (cases_lt piece n)
 
-    pub next_rows : (new_rows : List Row) (new_starts : List ℕ) (new_entries : List (Vec ℕ Global)) (number : ℕ) → new_rows ≡ rows ++ made.rows.items → number ≡ length new_rows → number < 4294967296 → new_starts ≡ starts ++ number ∷ [] → new_entries ≡ entries ++ made.entries ∷ [] → AreFirstRows x (n + 1) new_rows new_starts new_entries
+    pub next_rows : (new_rows : List Row) (new_starts : List ℕ) (new_entries : List (Vec ℕ Global)) (number : ℕ) → new_rows ≡ rows ++ made.rows.items → number ≡ length new_rows → rows_before x (suc n) < 4294967296 → new_starts ≡ starts ++ number ∷ [] → new_entries ≡ entries ++ made.entries ∷ [] → AreFirstRows x (n + 1) new_rows new_starts new_entries
     next_rows new_rows new_starts new_entries number more_rows is fits more_starts more_entries = subst (λ (k : ℕ). AreFirstRows x k new_rows new_starts new_entries) (let one : suc n ≡ n + 1 = omega arith in one) (record {
       starts = mapped_more (rows_before x) starts new_starts (suc n) number are.starts (is ∙ ap length more_rows ∙ all_count) more_starts ∙ ap (λ (k : ℕ). map (rows_before x) (range_with_len 0 k)) (let one : suc n + 1 ≡ suc (suc n) = omega arith in one);
       count = ap length more_rows ∙ all_count;
-      few = omega (arith, is, fits);
+      few = let long = ap length more_rows in let all = all_count in omega (arith, long, all, fits);
       rows = λ piece i row below inside at. row_more piece i row below inside (ap (λ (all : List Row). slice_get all (rows_before x piece + i)) (sym more_rows) ∙ at);
       pieces = let e = ap length more_entries in let l = length-append entries (made.entries ∷ []) in let count = are.pieces in omega (arith, e, l, count);
       entries = λ piece place line below acts there. subst (λ (all : List (Vec ℕ Global)). ∥ EntryIs x piece line (entry_at all piece place) ∥₁) (sym more_entries) (entry_more piece place line below acts there);

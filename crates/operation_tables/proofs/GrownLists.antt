@@ -5,6 +5,7 @@ use Rattle.std.specs.List.{range_with_len}
 use Rattle.std.proofs.lemmas.List.{append-nil}
 use Rattle.std.proofs.lemmas.List.FromFn.{map-range_with_len_more, length-map-range_with_len, get_or-map-range_with_len}
 use Rattle.std.proofs.lemmas.Grind.{flat_map-append}
+use Rattle.std.proofs.lemmas.Option.{slice_get_read}
 use Rattle.list_laws.proofs.Ranges.{range_more}
 
 module _ {X : Type 0} where
@@ -32,6 +33,10 @@ module _ {X : Type 0} where
   get_some [] k below = absurd (omega (arith, below))
   get_some (x ∷ xs) zero below = (x, refl)
   get_some (x ∷ xs) (suc k) below = get_some xs k (omega (arith, below))
+
+  -- an item of a loop over a list
+  pub item_at : (xs items : List X) (k : ℕ) (x : X) → items ≡ xs → k < length items → x ≡ get_or items k x → slice_get xs k ≡ Some x
+  item_at xs items k x same lt is = ap (λ (ys : List X). slice_get ys k) (sym same) ∙ slice_get_read items (length items) k x refl lt is
 
   pub append_more : (xs ys : List X) (y : X) → (xs ++ ys) ++ y ∷ [] ≡ xs ++ (ys ++ y ∷ [])
   append_more [] ys y = refl

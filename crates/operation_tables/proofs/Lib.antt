@@ -29,3 +29,4 @@ pub mod RowMade
 pub mod RowOperands
 pub mod PlannedOperations
 pub mod GivenOperands
+pub mod PlanCounts

@@ -77,7 +77,7 @@ parting_nodes net piece kind.Act is = absurd cc
 parting_nodes net piece kind.Join is = absurd cc
 parting_nodes net piece kind.End is = absurd cc
 
-parting_operations : (x : OperationNet) (piece : ℕ) (k : PieceKind) → is_parting k ≡ true → operation_nodes_by x piece k ≡ operation_nodes x piece ++ map (Switch piece) (switch_lines x.net piece k)
+pub parting_operations : (x : OperationNet) (piece : ℕ) (k : PieceKind) → is_parting k ≡ true → operation_nodes_by x piece k ≡ operation_nodes x piece ++ map (Switch piece) (switch_lines x.net piece k)
 parting_operations x piece kind.Branch is = refl
 parting_operations x piece kind.Hold is = refl
 parting_operations x piece kind.Start is = absurd cc

@@ -3,7 +3,7 @@ use Rattle.std.proofs.Common.{◌≡◌, ◌<◌, ◌≤◌, ⊎_elim, ◌↔◌
 use Rattle.std.specs.Option.{option_map}
 use Rattle.std.proofs.lemmas.Bool.{cases_lt}
 use Rattle.std.proofs.lemmas.List.{length-map}
-use Rattle.std.proofs.lemmas.Option.{slice_get-map, slice_get_within}
+use Rattle.std.proofs.lemmas.Option.{get_or_from_slice_get, slice_get-map, slice_get_within}
 use mathlib.Core.Path.{fun_ext}
 use Rattle.op_table.specs.Words.{IsWord}
 use Rattle.class_set.specs.ClassSet.{holds}
@@ -33,6 +33,10 @@ use Rattle.operation_tables.specs.OperationParts.{AreOperationParts}
 use Rattle.operation_tables.specs.PieceView.{net_with_operations, piece_needs}
 use Rattle.operation_tables.specs.PlannedPieces.{AreNeedsOf, AreOperationsOf, ArePlanned}
 use Rattle.operation_tables.proofs.GrownLists.{get_last, get_some}
+
+-- what holds of each item holds of one that is found
+pub all_at : {X : Type 0} (P : X → Type 0) (xs : List X) → All P xs → (i : ℕ) (x : X) → slice_get xs i ≡ Some x → P x
+all_at P xs all i x at = subst P (get_or_from_slice_get xs i x x at) (all i x (slice_get_within xs i x at))
 
 -- ---- the program
 

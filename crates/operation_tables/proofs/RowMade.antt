@@ -1,5 +1,5 @@
 -- The row of an operation, from what its parts are.
-use Rattle.std.proofs.Common.{◌≡◌, ◌≤◌, ◌<◌, ◌+◌, ⊎_elim, ℕ, true, List, length, map, get_or, All, sym, ap, ◌∙◌, subst, arith}
+use Rattle.std.proofs.Common.{◌≡◌, ◌≤◌, ◌<◌, ◌+◌, ◌^◌, ⊎_elim, ℕ, true, List, length, map, get_or, All, sym, ap, ◌∙◌, subst, arith}
 use Rattle.std.specs.List.{range_with_len}
 use Rattle.std.proofs.lemmas.Bool.{cases_lt}
 use Rattle.std.proofs.lemmas.List.{get_or-map, get_or_past, length-map}
@@ -29,7 +29,7 @@ module _ (x : OperationNet) (piece i : ℕ) where
   -- ---- what is counted before the operation
 
   module _ (old : Scratch) (counted : AreCounted x piece i old) where
-    pub few_counted : i < operation_count x piece → operation_count x piece < 4294967296 → (line : ℕ) → before_at old line < 4294967295
+    pub few_counted : i < operation_count x piece → operation_count x piece ≤ 500 → (line : ℕ) → before_at old line < 2 ^ 16
     few_counted inside few line = ⊎_elim
         (λ (low : line < x.net.routing.lines). let is = counted.before line low in let most = passing_few (λ j. x.needs piece j line) i in omega (arith, is, most, inside, few))
         (λ (high : x.net.routing.lines ≤ line). let size = counted.all.before in let none : before_at old line ≡ 0 = get_or_past old.before.items line 0 (omega (arith, size, high)) in omega (arith, none))

@@ -1,11 +1,12 @@
 -- The operations of the pieces of a net, as they are planned.
-use Rattle.std.specs.Prelude.{◌≡◌, ◌↔◌, ℕ, Bool, true, List, length, map, Some, slice_get}
+use Rattle.std.specs.Prelude.{◌≡◌, ◌↔◌, ◌≤◌, ℕ, Bool, true, List, length, map, All, Some, slice_get}
 use Rattle.alias_classes.specs.Classes.{ClassTable}
 use Rattle.dep_routing.specs.Touches.{exec_kind}
 use Rattle.net_board.specs.Nodes.{NetOf, graph_in, kind_in}
 use Rattle.op_board.specs.Needs.{OperationNeeds}
 use Rattle.op_board.specs.Operations.{operations_of}
 use Rattle.operation_lists.specs.declared.operations.Operation.{Operation}
+use Rattle.operation_lists.specs.CanPerform.{CanPerform}
 use Rattle.operation_lists.specs.Seen.{operation_seen}
 use Rattle.set_lists.specs.declared.lists.SetList.{SetList}
 use Rattle.set_lists.specs.Sets.{set_count, test_at}
@@ -20,6 +21,8 @@ pub record AreNeedsOf {W : ℕ} (c : ClassTable) (touches : ℕ → Bool) (opera
 pub record AreOperationsOf {W : ℕ} (net : NetOf) (c : ClassTable) (piece : ℕ) (planned : PieceOperations W) : Type 0 where
   pub operations : map operation_seen planned.operations.items ≡ operations_of net.program.names (kind_in net piece) (exec_kind net.program piece)
   pub needs : AreNeedsOf c (net.touches piece) planned.operations.items planned.needs
+  pub few : length planned.operations.items ≤ 500
+  pub can : All (CanPerform net.program) planned.operations.items
 
 -- the operations of each piece
 pub record ArePlanned {W : ℕ} (net : NetOf) (c : ClassTable) (pieces : List (PieceOperations W)) : Type 0 where

@@ -2,6 +2,7 @@
 
 ghost use Rattle.std.specs.Prelude.{◌≡◌, ◌<◌, ◌≤◌, ℕ, false, length, IfOk};
 ghost use Rattle.class_set.specs.Members.{IsWidth};
+ghost use Rattle.f77_tree.specs.Operations.{HasFewOperations};
 ghost use Rattle.cfg_build.specs.Flow.{flow as flow_graph};
 ghost use Rattle.dep_routing.specs.Touch.{touches_in};
 ghost use Rattle.net_board.specs.NetParts.{net_with};
@@ -35,8 +36,7 @@ pub struct OpGraph<'a, const W: usize> {
 impl<'a, const W: usize> OpGraph<'a, W> {
     ghost use Rattle.operation_tables.specs.GraphView.{operations_of};
 
-    /// The nodes of the net of a program over a copy of its data. Errors: memory runs out, or there are more nodes than can be numbered
-    /// (2^32 or more).
+    /// The nodes of the net of a program over a copy of its data. Errors: memory runs out.
     pub fn new(
         alloc: Global,
         p: &'a Program,
@@ -49,6 +49,7 @@ impl<'a, const W: usize> OpGraph<'a, W> {
         requires width { IsWidth W }
         requires parts { AreOperationParts p.now f.now c.now (touches_in touch.now) l.now }
         requires sets { length touch.now ≡ (flow_graph p.now.execs).graph.nodes }
+        requires modest { HasFewOperations p.now }
         ensures net { IfOk result (λ graph. (operations_of graph).net ≡ net_with p.now input.now.items (touches_in touch.now) l.now) }
         ensures is_net { IfOk result (λ graph. IsOperationNet (operations_of graph)) }
         ensures outside_pieces { IfOk result (λ graph. (piece i line : ℕ) → (graph_in (operations_of graph).net).nodes ≤ piece → (operations_of graph).needs piece i line ≡ false) }

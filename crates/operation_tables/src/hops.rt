@@ -1,6 +1,6 @@
 //! Where token lines go from an operation.
 
-ghost use Rattle.std.specs.Prelude.{◌≡◌, ◌+◌, ◌-◌, ◌^◌, ◌<◌, ◌==◌, ℕ, true, if◌then◌else◌, All, IfOk, OnOk, Some, filter, length, map};
+ghost use Rattle.std.specs.Prelude.{◌≡◌, ◌+◌, ◌^◌, ◌<◌, ◌≤◌, ◌==◌, ℕ, true, if◌then◌else◌, All, IfOk, OnOk, Some, filter, length, map};
 ghost use Rattle.std.specs.List.{list_any, range_with_len};
 ghost use Rattle.std.specs.List.Sorted.{IsStrictlyIncreasing};
 ghost use Rattle.class_set.specs.ClassSet.{holds};
@@ -40,24 +40,16 @@ pub(crate) fn make_scratch(alloc: Global, lines: u32) -> Result<Scratch, NoMemor
     })
 }
 
-/// A line that an operation needs, as so many before it do. Numbers of 2^16 or more are allocation failure.
-fn unlinked_hop(line: u32, before: u32) -> Result<Hop, NoMemory>
-    ensures { IfOk result (λ hop. hop ≡ unlinked line before) }
+/// A line that an operation needs, as so many before it do.
+fn unlinked_hop(line: u32, before: u32) -> Hop
+    requires line { line < 2 ^ 16 }
+    requires before { before < 2 ^ 16 }
+    ensures { result ≡ unlinked line before }
 {
-    Ok(Hop {
-        line: short(line)?,
-        before: short(before)?,
+    Hop {
+        line: line as u16,
+        before: before as u16,
         next: None,
-    })
-}
-
-/// The number in 16 bits, unless it is too great.
-pub(crate) fn short(number: u32) -> Result<u16, NoMemory>
-    ensures { IfOk result (λ n. n ≡ number) }
-{
-    match u16::try_from(number) {
-        Ok(n) => Ok(n),
-        Err(_) => Err(NoMemory),
     }
 }
 
@@ -70,7 +62,8 @@ pub(crate) fn unlinked_hops<const W: usize>(
 ) -> Result<Vec<Hop>, NoMemory>
     requires width { IsWidth W }
     requires exist { (line : ℕ) → holds needs.now line ≡ true → line < length scratch.old.before.items }
-    requires few { (line : ℕ) → before_at scratch.old line < 2 ^ 32 - 1 }
+    requires lines { length scratch.old.before.items ≤ 1024 }
+    requires few { (line : ℕ) → before_at scratch.old line < 2 ^ 16 }
     ensures lines { IfOk result (λ hops. map (λ (hop : Hop). hop.line) hops.items ≡ filter (holds needs.now) (range_with_len 0 (length scratch.old.before.items))) }
     ensures before { IfOk result (λ hops. All (λ (hop : Hop). hop.before ≡ before_at scratch.old hop.line) hops.items) }
     ensures counts { OnOk result ((line : ℕ) → before_at scratch.new line ≡ before_at scratch.old line + one_if (holds needs.now line)) }
@@ -82,7 +75,7 @@ pub(crate) fn unlinked_hops<const W: usize>(
     let mut hops = Vec::with_capacity(alloc, usize::from(next.is_some()))?;
     while let Some(line) = next {
         let before = scratch.before[line as usize];
-        hops.push(unlinked_hop(line, before)?)?;
+        hops.push(unlinked_hop(line, before))?;
         scratch.before[line as usize] = before + 1;
         next = needs.next_after(Some(line));
     }

@@ -4,6 +4,7 @@ ghost use Rattle.std.specs.Prelude.{◌≡◌, ◌+◌, ◌<◌, ◌≤◌, ◌-
 ghost use Rattle.std.specs.Option.{option_copied};
 ghost use Rattle.class_set.specs.Members.{IsWidth};
 ghost use Rattle.closed_walks.specs.Graph.{edge_count};
+ghost use Rattle.f77_tree.specs.Operations.{HasFewOperations};
 ghost use Rattle.cfg_build.specs.Flow.{flow as flow_graph};
 ghost use Rattle.cfg_build.specs.Passes.{out};
 ghost use Rattle.dep_routing.specs.Touch.{touches_in};
@@ -45,8 +46,7 @@ impl<'a, const W: usize> OperationBoard<'a, W> {
     ghost use Rattle.operation_tables.specs.BoardView.{operation_net_on};
     ghost use Rattle.operation_tables.specs.Telling.{IsOperation};
 
-    /// The nodes of the net of a program over a copy of its data, and what their firings look up. Errors: memory runs out, or there
-    /// are more nodes than can be numbered (2^32 or more).
+    /// The nodes of the net of a program over a copy of its data, and what their firings look up. Errors: memory runs out.
     pub fn new(
         alloc: Global,
         p: &'a Program,
@@ -59,6 +59,7 @@ impl<'a, const W: usize> OperationBoard<'a, W> {
         requires width { IsWidth W }
         requires parts { AreOperationParts p.now f.now c.now (touches_in touch.now) l.now }
         requires sets { length touch.now ≡ (flow_graph p.now.execs).graph.nodes }
+        requires modest { HasFewOperations p.now }
         ensures net { IfOk result (λ b. (operation_net_on b).net ≡ net_with p.now input.now.items (touches_in touch.now) l.now) }
         ensures is_net { IfOk result (λ b. IsOperationNet (operation_net_on b)) }
         ensures outside_pieces { IfOk result (λ b. (piece i line : ℕ) → (graph_in (operation_net_on b).net).nodes ≤ piece → (operation_net_on b).needs piece i line ≡ false) }

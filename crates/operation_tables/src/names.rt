@@ -8,6 +8,7 @@ ghost use Rattle.op_board.specs.OperationNets.{all_operation_nodes, first_operat
 ghost use Rattle.operation_tables.specs.PlanView.{operations_in};
 
 use crate::plan::OperationPlan;
+use crate::row_laws::plans_can_be_numbered;
 use cfg_build::PieceKind;
 use df_sequence::NoMemory;
 use firing::NodeName;
@@ -21,8 +22,7 @@ pub(crate) struct NumberedNodes {
     pub(crate) firsts: Vec<u32>,
 }
 
-/// The nodes, and for each piece the number of its first one, and last the number of all. More nodes than can be numbered are
-/// allocation failure.
+/// The nodes, and for each piece the number of its first one, and last the number of all.
 pub(crate) fn numbered_nodes<const W: usize>(
     alloc: Global,
     plan: &OperationPlan<W>,
@@ -31,27 +31,17 @@ pub(crate) fn numbered_nodes<const W: usize>(
     ensures few { IfOk result (λ n. length n.names < 2 ^ 32) }
     ensures firsts { IfOk result (λ n. n.firsts.items ≡ map (first_operation (operations_in plan.now)) (range_with_len 0 (suc (graph_in (operations_in plan.now).net).nodes))) }
 {
+    plans_can_be_numbered(plan);
     let mut names = NameList::new(alloc);
     let mut firsts = Vec::with_capacity(alloc, plan.board.plan.flow.pieces() as usize + 1)?;
     let mut count = 0;
     firsts.push(count)?;
     for piece in 0..plan.board.plan.flow.pieces() {
         push_nodes(&mut names, plan, piece)?;
-        count = number_of(names.len())?;
+        count = names.len() as u32;
         firsts.push(count)?;
     }
     Ok(NumberedNodes { names, firsts })
-}
-
-/// The count as a number of 32 bits, unless it is too great.
-pub(crate) fn number_of(count: usize) -> Result<u32, NoMemory>
-    ensures { IfOk result (λ number. number ≡ count) }
-{
-    if count <= u32::MAX as usize {
-        Ok(count as u32)
-    } else {
-        Err(NoMemory)
-    }
 }
 
 /// Appends the nodes of a piece: its operations, and its switches or merges.
@@ -80,7 +70,8 @@ fn push_operations<const W: usize>(
     requires { piece < (graph_in (operations_in plan.now).net).nodes }
     ensures { OnOk result (names.new ≡ names.old ++ operation_nodes (operations_in plan.now) piece) }
 {
-    let count = number_of(plan.pieces[piece as usize].operations.len())?;
+    plans_can_be_numbered(plan);
+    let count = plan.pieces[piece as usize].operations.len() as u32;
     for i in 0..count {
         names.push(NodeName::Op(piece, i))?;
     }

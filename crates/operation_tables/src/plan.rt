@@ -3,6 +3,7 @@
 ghost use Rattle.std.specs.Prelude.{◌≡◌, ◌<◌, ◌≤◌, ◌*◌, ℕ, All, IfOk, Some, length, map, slice_get};
 ghost use Rattle.class_set.specs.Members.{IsWidth};
 ghost use Rattle.f77_tree.specs.CanRun.{CanRun};
+ghost use Rattle.f77_tree.specs.Operations.{HasFewOperations};
 ghost use Rattle.alias_classes.specs.Classes.{IsClasses, class_count};
 ghost use Rattle.cfg_build.specs.Flow.{flow as flow_graph};
 ghost use Rattle.dep_routing.specs.Touch.{touches_in};
@@ -47,9 +48,11 @@ pub struct OperationPlan<'a, const W: usize> {
     pub ghost every_piece: { length pieces.items ≡ (graph_in (net_on board)).nodes },
     pub ghost own_operations: { (piece : ℕ) (operations : _) → slice_get pieces.items piece ≡ Some operations → ∥ map operation_seen operations.operations.items ≡ operations_at (net_with_operations board pieces.items) piece ∥₁ },
     pub ghost own_needs: { (piece : ℕ) (operations : _) → slice_get pieces.items piece ≡ Some operations → set_count operations.needs ≡ length operations.operations.items },
+    pub ghost few_operations: { (piece : ℕ) (operations : _) → slice_get pieces.items piece ≡ Some operations → length operations.operations.items ≤ 500 },
+    pub ghost few_operands: { (piece i : ℕ) (operations : _) (operation : _) → slice_get pieces.items piece ≡ Some operations → slice_get operations.operations.items i ≡ Some operation → length operation.operands.items ≤ 500 },
 }
 
-/// The operations of a program over data. More operations of a piece than can be numbered are allocation failure.
+/// The operations of a program over data.
 pub(crate) fn make_plan<'a, const W: usize>(
     alloc: Global,
     p: &'a Program,
@@ -62,6 +65,7 @@ pub(crate) fn make_plan<'a, const W: usize>(
     requires width { IsWidth W }
     requires parts { AreOperationParts p.now f.now c.now (touches_in touch.now) l.now }
     requires sets { length touch.now ≡ (flow_graph p.now.execs).graph.nodes }
+    requires modest { HasFewOperations p.now }
     ensures net { IfOk result (λ plan. net_on plan.board ≡ net_with p.now input.now.items (touches_in touch.now) l.now) }
     ensures is_net { IfOk result (λ plan. IsOperationNet (net_with_operations plan.board plan.pieces.items)) }
 {
@@ -83,6 +87,7 @@ fn planned_pieces<'a, const W: usize>(
 ) -> Result<Vec<PieceOperations<'a, W>>, NoMemory>
     requires can_run { CanRun board.now.plan.program.now }
     requires classes { IsClasses board.now.plan.program.now c.now }
+    requires modest { HasFewOperations board.now.plan.program.now }
     ensures { IfOk result (λ pieces. ArePlanned (net_on board.now) c.now pieces.items) }
 {
     let mut pieces = Vec::with_capacity(alloc, board.plan.flow.pieces() as usize)?;
@@ -102,6 +107,7 @@ fn operations_with_needs<'a, const W: usize>(
     requires piece { piece < (graph_in (net_on board.now)).nodes }
     requires can_run { CanRun board.now.plan.program.now }
     requires classes { IsClasses board.now.plan.program.now c.now }
+    requires modest { HasFewOperations board.now.plan.program.now }
     ensures { IfOk result (λ planned. AreOperationsOf (net_on board.now) c.now piece planned) }
 {
     let operations = piece_operations(alloc, board.plan.program, board.plan.flow.piece(piece))?;

@@ -1,6 +1,6 @@
 //! What the firing of an operation looks up.
 
-ghost use Rattle.std.specs.Prelude.{◌≡◌, ◌+◌, ◌^◌, ◌<◌, ◌≤◌, [], ◌∷◌, ℕ, pos, true, if◌then◌else◌, IfOk, OnOk, get_or, length, map};
+ghost use Rattle.std.specs.Prelude.{◌≡◌, ◌+◌, ◌<◌, ◌≤◌, [], ◌∷◌, ℕ, pos, true, if◌then◌else◌, IfOk, OnOk, get_or, length, map};
 ghost use Rattle.net_board.specs.Nodes.{graph_in, is_acting, kind_in, switches};
 ghost use Rattle.op_board.specs.Operations.{Known, gives_value, is_decision};
 ghost use Rattle.op_board.specs.OperationNets.{OperationNet, needed, operation_at, operation_count};
@@ -11,11 +11,10 @@ ghost use Rattle.operation_tables.specs.PlanView.{operations_in};
 ghost use Rattle.operation_tables.specs.ScratchLines.{AreCounted, AreLinked, IsClean};
 
 use crate::entries::{clear_lines, first_entries};
-use crate::hops::{Hop, Scratch, link_hops, short, unlinked_hops};
-use crate::names::number_of;
+use crate::hops::{Hop, Scratch, link_hops, unlinked_hops};
 use crate::plan::OperationPlan;
-use crate::row_laws::{needed_lines_exist, operations_fit};
-use crate::takers::{copied_operands, operation_total, value_takers};
+use crate::row_laws::{needed_lines_exist, operations_fit, plans_can_be_numbered};
+use crate::takers::{copied_operands, value_takers};
 use df_sequence::NoMemory;
 use op_board::values_are_taken_once;
 use operation_effects::{Task, task_of};
@@ -60,8 +59,7 @@ pub(crate) struct PieceRows<'a> {
     pub(crate) entries: Vec<u32>,
 }
 
-/// The rows of a piece. The scratch is clean before and after, but not after a failure. More operations than can be numbered are
-/// allocation failure.
+/// The rows of a piece. The scratch is clean before and after, but not after a failure.
 pub(crate) fn make_rows<'a, const W: usize>(
     alloc: Global,
     plan: &OperationPlan<'a, W>,
@@ -93,9 +91,9 @@ fn linked_rows<'a, const W: usize>(
     ensures counted { OnOk result (AreCounted (operations_in plan.now) piece (operation_count (operations_in plan.now) piece) scratch.new) }
     ensures linked { OnOk result (AreLinked (operations_in plan.now) piece 0 scratch.new) }
 {
+    plans_can_be_numbered(plan);
     let mut rows = unlinked_rows(alloc, plan, piece, scratch)?;
-    let count = operation_total(&plan.pieces[piece as usize].operations)?;
-    let mut i = short(count)?;
+    let mut i = plan.pieces[piece as usize].operations.len() as u16;
     while i > 0 {
         i -= 1;
         link_hops(&mut rows[i as usize].hops, scratch, i);
@@ -117,8 +115,9 @@ fn unlinked_rows<'a, const W: usize>(
     ensures first { scratch.new.first.items ≡ scratch.old.first.items }
 {
     values_are_taken_once();
+    plans_can_be_numbered(plan);
     let operations = &plan.pieces[piece as usize].operations;
-    let count = operation_total(operations)?;
+    let count = operations.len() as u32;
     let takers = value_takers(alloc, operations)?;
     let mut rows = Vec::with_capacity(alloc, count as usize)?;
     for i in 0..count {
@@ -138,7 +137,7 @@ fn unlinked_row<'a, const W: usize>(
 ) -> Result<Row<'a>, NoMemory>
     requires piece { piece < (graph_in (operations_in plan.now).net).nodes }
     requires operation { i < operation_count (operations_in plan.now) piece }
-    requires few { operation_count (operations_in plan.now) piece < 2 ^ 32 }
+    requires few { operation_count (operations_in plan.now) piece ≤ 500 }
     requires taker { gives_value (operation_at (operations_in plan.now) piece i).work ≡ true → IsTaker (operations_in plan.now) piece i taker }
     requires counted { AreCounted (operations_in plan.now) piece i scratch.old }
     ensures row { IfOk result (λ row. ∥ IsRowWith (IsCountedHop (operations_in plan.now) piece i) (operations_in plan.now) piece i row ∥₁) }
@@ -153,8 +152,8 @@ fn unlinked_row<'a, const W: usize>(
     let operands = copied_operands(alloc, &operation.operands)?;
     let count = count_of(&operands);
     let hops = unlinked_hops(alloc, &needs, scratch)?;
-    let lines = number_of(hops.len())?;
-    let waits = number_of(waits_anew(plan, piece, operation, lines))?;
+    let lines = hops.len() as u32;
+    let waits = waits_anew(plan, piece, operation, lines) as u32;
     Ok(Row {
         task: task_of(plan.board.plan.program, operation.work),
         few: first_operands(&operands),
@@ -182,7 +181,8 @@ fn waits_anew<const W: usize>(
 ) -> usize
     requires piece { piece < (graph_in (operations_in plan.now).net).nodes }
     requires acts { is_acting (kind_in (operations_in plan.now).net piece) ≡ true }
-    ensures { (i : ℕ) → operation_at (operations_in plan.now) piece i ≡ operation_seen operation.now → lines ≡ length (needed (operations_in plan.now) piece i) → result ≡ waits_anew (operations_in plan.now) piece i }
+    ensures count { (i : ℕ) → operation_at (operations_in plan.now) piece i ≡ operation_seen operation.now → lines ≡ length (needed (operations_in plan.now) piece i) → result ≡ waits_anew (operations_in plan.now) piece i }
+    ensures few { result ≤ lines + length operation.now.operands.items + 1025 }
 {
     let values = values_of_others(operation.operands.as_slice());
     let own = usize::from(gives_value(&operation.work));
@@ -217,7 +217,8 @@ fn one_if_value(operand: &Operand) -> usize
 fn switches_told<const W: usize>(plan: &OperationPlan<W>, piece: u32, work: &Work) -> u32
     requires piece { piece < (graph_in (operations_in plan.now).net).nodes }
     requires acts { is_acting (kind_in (operations_in plan.now).net piece) ≡ true }
-    ensures { result ≡ if is_decision (work_seen work.now) then length (switches (operations_in plan.now).net piece) else 0 }
+    ensures count { result ≡ if is_decision (work_seen work.now) then length (switches (operations_in plan.now).net piece) else 0 }
+    ensures few { result ≤ 1024 }
 {
     if is_decision(work) {
         plan.board.end(piece) - (plan.board.first(piece) + 1)

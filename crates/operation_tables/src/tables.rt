@@ -10,8 +10,9 @@ ghost use Rattle.operation_tables.specs.PieceTables.{AreAllRows, IsCounted, reco
 ghost use Rattle.operation_tables.specs.PlanView.{operations_in};
 
 use crate::hops::make_scratch;
-use crate::names::{number_of, numbered_nodes};
+use crate::names::numbered_nodes;
 use crate::plan::OperationPlan;
+use crate::row_laws::plans_can_be_numbered;
 use crate::rows::{PieceRows, Row, make_rows};
 use df_sequence::NoMemory;
 use firing::NodeName;
@@ -49,7 +50,7 @@ pub struct OperationTables<'a> {
     pub most: usize,
 }
 
-/// The nodes of a net of operations. More nodes than can be numbered, or operands of an operation, are allocation failure.
+/// The nodes of a net of operations.
 pub(crate) fn make_node_tables<const W: usize>(
     alloc: Global,
     plan: &OperationPlan<W>,
@@ -57,11 +58,10 @@ pub(crate) fn make_node_tables<const W: usize>(
     ensures { IfOk result (λ t. AreNodeTables (operations_in plan.now) t) }
 {
     let nodes = numbered_nodes(alloc, plan)?;
-    let most = number_of(most_values(plan))?;
     Ok(NodeTables {
         names: nodes.names,
         firsts: nodes.firsts,
-        most: most as usize,
+        most: most_values(plan),
     })
 }
 
@@ -102,13 +102,14 @@ pub(crate) struct AllRows<'a> {
     pub(crate) entries: Vec<Vec<u32>>,
 }
 
-/// The rows of all operations. More rows than can be numbered are allocation failure.
+/// The rows of all operations.
 fn all_rows<'a, const W: usize>(
     alloc: Global,
     plan: &OperationPlan<'a, W>,
 ) -> Result<AllRows<'a>, NoMemory>
     ensures { IfOk result (λ t. AreAllRows (operations_in plan.now) t) }
 {
+    plans_can_be_numbered(plan);
     let mut scratch = make_scratch(alloc, plan.board.plan.routes.lines())?;
     let mut rows = Vec::new(alloc);
     let mut starts = Vec::with_capacity(alloc, plan.board.plan.flow.pieces() as usize + 1)?;
@@ -120,7 +121,8 @@ fn all_rows<'a, const W: usize>(
             entries: firsts,
         } = make_rows(alloc, plan, piece, &mut scratch)?;
         rows.append(&mut own)?;
-        starts.push(number_of(rows.len())?)?;
+        let count = rows.len() as u32;
+        starts.push(count)?;
         entries.push(firsts)?;
     }
     Ok(AllRows {
@@ -156,7 +158,8 @@ fn record_of(name: NodeName, starts: &Vec<u32>) -> u32
 
 /// There are no more operations before one in its piece together with its operands than this.
 fn most_values<const W: usize>(plan: &OperationPlan<W>) -> usize
-    ensures { (piece i : ℕ) → i < operation_count (operations_in plan.now) piece → i + length (operation_at (operations_in plan.now) piece i).operands ≤ result }
+    ensures most { (piece i : ℕ) → i < operation_count (operations_in plan.now) piece → i + length (operation_at (operations_in plan.now) piece i).operands ≤ result }
+    ensures few { result ≤ 1000 }
 {
     let mut most = 0;
     for operations in &plan.pieces {
@@ -167,7 +170,10 @@ fn most_values<const W: usize>(plan: &OperationPlan<W>) -> usize
 
 /// There are no more operations before one of these together with its operands than this.
 fn most_of(operations: &Vec<Operation>) -> usize
-    ensures { (i : ℕ) (operation : Operation) → slice_get operations.now.items i ≡ Some operation → i + length operation.operands.items ≤ result }
+    requires operations { length operations.now.items ≤ 500 }
+    requires operands { (i : ℕ) (operation : Operation) → slice_get operations.now.items i ≡ Some operation → length operation.operands.items ≤ 500 }
+    ensures most { (i : ℕ) (operation : Operation) → slice_get operations.now.items i ≡ Some operation → i + length operation.operands.items ≤ result }
+    ensures few { result ≤ 1000 }
 {
     let mut most = 0;
     for i in 0..operations.len() {

@@ -11,16 +11,6 @@ use operation_lists::{Operand, Operands, Operation};
 use smallvec::SmallVec;
 use std::alloc::Global;
 
-/// How many operations there are. More than can be numbered are allocation failure.
-pub(crate) fn operation_total(operations: &Vec<Operation>) -> Result<u32, NoMemory>
-    ensures { IfOk result (λ count. count ≡ length operations.now.items) }
-{
-    match u32::try_from(operations.len()) {
-        Ok(count) => Ok(count),
-        Err(_) => Err(NoMemory),
-    }
-}
-
 /// For each operation one that takes its value, or some number where none does. An operation takes the values of earlier ones alone.
 pub(crate) fn value_takers(alloc: Global, operations: &Vec<Operation>) -> Result<Vec<u32>, NoMemory>
     requires few { length operations.now.items < 2 ^ 32 }

@@ -1,5 +1,5 @@
 -- The loads whose values nodes take, and those that take theirs, node by node.
-use Rattle.std.proofs.Common.{◌≡◌, ◌<◌, ◌≤◌, ◌⊎◌, inl, inr, ⊎_elim, ℕ, zero, suc, ◌+◌, ◌-◌, ◌^◌, ◌==◌, true, false, List, [], ◌∷◌, ◌++◌, length, Option, Some, slice_get, refl, sym, ap, ◌∙◌, subst, eqb-true, arith}
+use Rattle.std.proofs.Common.{◌≡◌, ◌<◌, ◌≤◌, ◌⊎◌, inl, inr, ⊎_elim, ℕ, zero, suc, ◌+◌, ◌-◌, ◌==◌, true, false, List, [], ◌∷◌, ◌++◌, length, Option, Some, slice_get, refl, sym, ap, ◌∙◌, subst, eqb-true, arith}
 use Rattle.std.specs.List.{list_any, range_with_len}
 use Rattle.std.proofs.lemmas.Bool.{eq-eqb, ne_eqb}
 use Rattle.std.proofs.lemmas.List.{length-append}
@@ -181,15 +181,14 @@ module _ (x : OperationNet) (n : ℕ) (steps : List Step) (listed : List ℕ) (a
   own_inside : step.giver + step.givers ≤ length all_listed
   own_inside = let l = longer in omega (arith, fits, place, l)
 
-  pub values_more : length all_listed < 2 ^ 32 → AreValueLoads x all_steps all_listed
-  values_more few = record {
+  pub values_more : AreValueLoads x all_steps all_listed
+  values_more = record {
     givers = each_step (λ k s. AreGivers x all_listed k s) (λ k s at. λ giver low load takes. still_listed giver listed more s.giver s.givers (made.inside k s at) (made.givers k s at giver low load takes)) own_givers;
     taker = each_step (λ k s. IsLoadTaker x k s.taker) made.taker taker;
     inside = each_step (λ k s. s.giver + s.givers ≤ length all_listed) (λ k s at. let i = made.inside k s at in let l = longer in omega (arith, i, l)) own_inside;
     loads = each_listed (λ g. is_load_node x (operation_node x g) ≡ true) made.loads these_load;
     exist = each_listed (λ g. g < node_total x) made.exist these_exist;
     takers = each_step (λ k s. s.taker < node_total x → is_load_node x (operation_node x s.taker) ≡ true) made.takers loads;
-    few = few;
   }
 
 pub no_values : (x : OperationNet) (steps : List Step) (listed : List ℕ) → steps ≡ [] → listed ≡ [] → AreValueLoads x steps listed
@@ -200,7 +199,6 @@ no_values x steps listed none nothing = subst (λ (ss : List Step). AreValueLoad
   loads = λ m g at. absurd cc;
   exist = λ m g at. absurd cc;
   takers = λ k s at. absurd cc;
-  few = omega arith;
 }))
 
 -- the operation that a node is gives no value

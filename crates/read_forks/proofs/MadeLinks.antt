@@ -1,5 +1,5 @@
 -- One node more has its step and its links.
-use Rattle.std.proofs.Common.{◌≡◌, ◌<◌, ◌≤◌, ⊎_elim, ℕ, zero, suc, ◌+◌, ◌-◌, ◌^◌, Bool, true, false, cond, List, [], ◌∷◌, ◌++◌, length, map, filter, Some, slice_get, refl, sym, ap, ◌∙◌, subst, arith}
+use Rattle.std.proofs.Common.{◌≡◌, ◌<◌, ◌≤◌, ⊎_elim, ℕ, zero, suc, ◌+◌, ◌-◌, Bool, true, false, cond, List, [], ◌∷◌, ◌++◌, length, map, filter, Some, slice_get, refl, sym, ap, ◌∙◌, subst, arith}
 use Rattle.std.specs.List.{range_with_len}
 use Rattle.std.proofs.lemmas.List.{length-append, length-map}
 use Rattle.list_laws.proofs.Members.{Member-filtered, Member-in_range}
@@ -143,8 +143,8 @@ module _ (x : OperationNet) (n : ℕ) (steps : List Step) (links : List Link) (m
         no_step (u ∷ ss) zero t long at = omega (arith, long)
         no_step (u ∷ ss) (suc m) t long at = no_step ss m t (omega (arith, long)) at
 
-    pub steps_more : length all_links < 2 ^ 32 → AreStepsBelow x (n + 1) all_steps all_links
-    steps_more few = record {
+    pub steps_more : AreStepsBelow x (n + 1) all_steps all_links
+    steps_more = record {
       all = let a = made.all in let l = length-append steps (step ∷ []) in omega (arith, a, l);
       each = λ k s at. ⊎_elim
           (λ (e : slice_get steps k ≡ Some s). old_step k s (made.each k s e))
@@ -152,7 +152,6 @@ module _ (x : OperationNet) (n : ℕ) (steps : List Step) (links : List Link) (m
           (get_end steps step s k at);
       own = λ at link is. split (IsOwnLink x all_steps at link) at link is (old_own at link) (new_own at link);
       below = λ at link is. split (link.node < n + 1) at link is (λ inside e. let b = made.below at link e in omega (arith, b)) (λ j e r. let b = ap (λ (l : Link). l.node) r.is in omega (arith, b));
-      few = few;
       shut = λ at link is. split (link.open ≡ false) at link is (λ inside e. made.shut at link e) (λ j e r. ap (λ (l : Link). l.open) r.is);
     }
       where
@@ -225,7 +224,6 @@ module _ (x : OperationNet) (n : ℕ) (steps : List Step) (links : List Link) (m
         let same : slice_get (steps ++ turn_step ∷ []) link.node ≡ slice_get steps link.node = get_left steps (turn_step ∷ []) link.node (omega (arith, b, all)) in
         record { node = o.node; from = λ s e. o.from s (sym same ∙ e); below = λ s e. o.below s (sym same ∙ e) };
     below = λ at link is. let b = made.below at link is in omega (arith, b);
-    few = made.few;
     shut = made.shut;
   }
 
@@ -237,9 +235,8 @@ no_steps x steps links none nothing = subst (λ (ss : List Step). AreStepsBelow 
   each = λ k s at. absurd cc;
   own = λ at link is. absurd cc;
   below = λ at link is. absurd cc;
-  few = omega arith;
   shut = λ at link is. absurd cc;
 }))
 
 pub all_steps_made : (x : OperationNet) (n : ℕ) (steps : List Step) (links : List Link) → n ≡ node_total x → AreStepsBelow x n steps links → AreSteps x steps links
-all_steps_made x n steps links end made = record { all = made.all ∙ end; each = made.each; own = made.own; few = made.few }
+all_steps_made x n steps links end made = record { all = made.all ∙ end; each = made.each; own = made.own }

@@ -1,5 +1,5 @@
 -- One node more in the tables, as code appends it.
-use Rattle.std.proofs.Common.{◌≡◌, ◌<◌, inl, inr, ℕ, zero, suc, ◌+◌, ◌^◌, Bool, true, false, cond, get_or, List, [], ◌∷◌, ◌++◌, length, map, filter, take, Option, Some, None, slice_get, refl, sym, ap, ◌∙◌, subst, append-nil, arith}
+use Rattle.std.proofs.Common.{◌≡◌, ◌<◌, ◌≤◌, inl, inr, ℕ, zero, suc, ◌+◌, ◌^◌, Bool, true, false, cond, get_or, List, [], ◌∷◌, ◌++◌, length, map, filter, take, Option, Some, None, slice_get, refl, sym, ap, ◌∙◌, subst, append-nil, arith}
 use Rattle.std.proofs.lemmas.List.{append_assoc, length-append, length-map}
 use Rattle.firing.specs.ReadySet.{has}
 use Rattle.firing.specs.declared.system.NodeName.{NodeName}
@@ -41,20 +41,19 @@ module _ (x : OperationNet) (n : ℕ) (steps : List Step) (links : List Link) (l
             (omega arith)
             (omega arith)
             (no_load_taker x n (λ p i is. absurd (turn_not (operation_node x n) turns p i is)) turn_step.taker (omega (arith, few)))
-            (λ below. absurd (omega (arith, below, few)))
-            (subst (λ (gs : List ℕ). length gs < 2 ^ 32) (sym (append-nil listed)) made.values.few));
+            (λ below. absurd (omega (arith, below, few))));
       })
 
 -- ---- an operation
 
-module _ (x : OperationNet) (n : ℕ) (steps : List Step) (links : List Link) (listed : List ℕ) (made : AreTablesBelow x n steps links listed) (low : n < node_total x) (step : Step) (new_steps : List Step) (new_links : List Link) (grown : new_steps ≡ steps ++ step ∷ []) (first : step.first ≡ length links) (few : length new_links < 2 ^ 32) where
+module _ (x : OperationNet) (n : ℕ) (steps : List Step) (links : List Link) (listed : List ℕ) (made : AreTablesBelow x n steps links listed) (low : n < node_total x) (step : Step) (new_steps : List Step) (new_links : List Link) (grown : new_steps ≡ steps ++ step ∷ []) (first : step.first ≡ length links) where
   module _ (piece i : ℕ) (name : operation_node x n ≡ Op piece i) where
     named : IsOperationNamed x (Op piece i)
     named = subst (λ (a : NodeName). IsOperationNamed x a) name (operation_named x n low)
 
     pub operation_more : (new_listed : List ℕ) → step.piece ≡ piece → step.number ≡ i → step.loads ≡ is_load_node x (operation_node x n) → step.turns ≡ false → new_links ≡ links ++ map (new_link_of n) (needed x piece i) → step.first + step.count ≡ length new_links
-        → new_listed ≡ listed ++ load_givers x piece (operation_at x piece i).operands → step.giver ≡ length listed → step.giver + step.givers ≡ length new_listed → length new_listed < 2 ^ 32 → IsLoadTaker x n step.taker → (step.taker < node_total x → is_load_node x (operation_node x step.taker) ≡ true) → AreTablesBelow x (n + 1) new_steps new_links new_listed
-    operation_more new_listed of_piece of_number loads turns longer end more giver giver_end few_listed taker taker_loads =
+        → new_listed ≡ listed ++ load_givers x piece (operation_at x piece i).operands → step.giver ≡ length listed → step.giver + step.givers ≡ length new_listed → IsLoadTaker x n step.taker → (step.taker < node_total x → is_load_node x (operation_node x step.taker) ≡ true) → AreTablesBelow x (n + 1) new_steps new_links new_listed
+    operation_more new_listed of_piece of_number loads turns longer end more giver giver_end taker taker_loads =
         let lines : List ℕ = needed x piece i in
         let these : List ℕ = load_givers x piece (operation_at x piece i).operands in
         let long : length new_links ≡ length links + length lines = ap length longer ∙ length-append links (map (new_link_of n) lines) ∙ ap (λ (l : ℕ). length links + l) (length-map lines (new_link_of n)) in
@@ -62,7 +61,7 @@ module _ (x : OperationNet) (n : ℕ) (steps : List Step) (links : List Link) (l
         subst (λ (ss : List Step). AreTablesBelow x (n + 1) ss new_links new_listed) (sym grown)
         (subst (λ (ls : List Link). AreTablesBelow x (n + 1) (steps ++ step ∷ []) ls new_listed) (sym longer)
         (subst (λ (gs : List ℕ). AreTablesBelow x (n + 1) (steps ++ step ∷ []) (links ++ map (new_link_of n) lines) gs) (sym more) (record {
-          steps_made = steps_more x n steps links made.steps_made step lines low (ap (linked_lines x) name) (needed_rise x piece i) same_name loads (turns ∙ sym (ap is_turn name)) first (omega (arith, first, end, long)) (subst (λ (ls : List Link). length ls < 2 ^ 32) longer few);
+          steps_made = steps_more x n steps links made.steps_made step lines low (ap (linked_lines x) name) (needed_rise x piece i) same_name loads (turns ∙ sym (ap is_turn name)) first (omega (arith, first, end, long));
           values = values_more x n steps listed made.steps_made.all made.values step these
               (λ k below load taken. load_among x piece i named.exists named.fits.2 k load (sym (ap (λ (a : NodeName). takes x a k) name) ∙ taken))
               (λ k among. among_loads x piece i named.exists named.fits.2 k among)
@@ -71,8 +70,7 @@ module _ (x : OperationNet) (n : ℕ) (steps : List Step) (links : List Link) (l
               (omega (arith, giver, giver_end, long_listed))
               (omega (arith, giver))
               taker
-              taker_loads
-              (subst (λ (gs : List ℕ). length gs < 2 ^ 32) more few_listed);
+              taker_loads;
         })))
       where
         same_name : (p q : ℕ) → operation_node x n ≡ Op p q → (step.piece ≡ p) × (step.number ≡ q)
@@ -115,6 +113,16 @@ module _ (x : OperationNet) (piece : ℕ) where
           → cond b ((first_operation x piece + number) ∷ load_givers x piece (take (suc j) operands)) (load_givers x piece (take (suc j) operands)) ≡ cond b ((first_operation x piece + number) ∷ load_givers x piece (take j operands)) (load_givers x piece (take j operands)) ++ load_givers x piece (operand ∷ [])
       by true so = ap (λ (gs : List ℕ). (first_operation x piece + number) ∷ gs) so
       by false so = so
+
+  -- there are no more than operands
+  pub load_few : (operands : List Operand) → length (load_givers x piece operands) ≤ length operands
+  load_few [] = omega arith
+  load_few (Known z ∷ operands) = let few = load_few operands in omega (arith, few)
+  load_few (From number ∷ operands) = by (loads_one (first_operation x piece + number)) (load_few operands)
+    where
+      by : (b : Bool) → length (load_givers x piece operands) ≤ length operands → length (cond b ((first_operation x piece + number) ∷ load_givers x piece operands) (load_givers x piece operands)) ≤ suc (length operands)
+      by true few = omega (arith, few)
+      by false few = omega (arith, few)
 
   pub givers_more : (operands : List Operand) (j : ℕ) (operand : Operand) (old now new : List ℕ) → slice_get operands j ≡ Some operand → now ≡ old ++ load_givers x piece (take j operands) → new ≡ now ++ load_givers x piece (operand ∷ []) → new ≡ old ++ load_givers x piece (take (j + 1) operands)
   givers_more operands j operand old now new at so grown =

@@ -1,5 +1,5 @@
 -- Links that stay the same but for where lines go from their nodes, and for whether they are open.
-use Rattle.std.proofs.Common.{◌≡◌, ◌<◌, ◌⊎◌, inl, inr, ℕ, zero, suc, ◌+◌, ◌^◌, List, [], ◌∷◌, length, Option, Some, None, slice_get, slice_set, refl, sym, ap, ◌∙◌, subst, arith}
+use Rattle.std.proofs.Common.{◌≡◌, ◌<◌, ◌⊎◌, inl, inr, ℕ, zero, suc, ◌+◌, List, [], ◌∷◌, length, Option, Some, None, slice_get, slice_set, refl, sym, ap, ◌∙◌, subst, arith}
 use Rattle.std.proofs.Math.Logic.{∥∥₁_map}
 use Rattle.std.proofs.lemmas.Bool.{cases_eq}
 use Rattle.firing.specs.declared.system.NodeName.{NodeName}
@@ -123,7 +123,6 @@ module _ (old new : List Link) (same : AreSameLinks old new) where
       all = are.all;
       each = λ k step at. same_step k step (are.each k step at);
       own = λ n link at. own n link (was_link n link at);
-      few = let f = are.few in let r = same.room in subst (λ (k : ℕ). k < 2 ^ 32) (sym r) f;
     }
       where
         own : (n : ℕ) (link : Link) → WasLink old n link → IsOwnLink x steps n link

@@ -1,5 +1,5 @@
 -- What is looked up of nodes, as it is made, node by node.
-use Rattle.std.specs.Prelude.{◌≡◌, ◌<◌, ◌^◌, ℕ, false, List, [], ◌∷◌, ◌++◌, length, filter, Some, slice_get}
+use Rattle.std.specs.Prelude.{◌≡◌, ◌<◌, ℕ, false, List, [], ◌∷◌, ◌++◌, length, filter, Some, slice_get}
 use Rattle.op_board.specs.Operations.{Operand}
 use Rattle.op_board.specs.OperationNets.{OperationNet, operation_node}
 use Rattle.op_board.specs.OperationTokens.{givers}
@@ -29,7 +29,6 @@ pub record AreStepsBelow (x : OperationNet) (n : ℕ) (steps : List Step) (links
   pub each : (k : ℕ) (step : Step) → slice_get steps k ≡ Some step → IsStep x links k step
   pub own : (at : ℕ) (link : Link) → slice_get links at ≡ Some link → IsOwnLink x steps at link
   pub below : (at : ℕ) (link : Link) → slice_get links at ≡ Some link → link.node < n
-  pub few : length links < 2 ^ 32
   pub shut : AreShut links
 
 -- and the loads whose values they take, and that take theirs

@@ -91,7 +91,6 @@ pub record AreSteps (x : OperationNet) (steps : List Step) (links : List Link) :
   pub all : length steps ≡ node_total x
   pub each : (k : ℕ) (step : Step) → slice_get steps k ≡ Some step → IsStep x links k step
   pub own : (n : ℕ) (link : Link) → slice_get links n ≡ Some link → IsOwnLink x steps n link
-  pub few : length links < 2 ^ 32
 
 -- the loads whose values a node takes, and the load that takes its value
 pub record AreValueLoads (x : OperationNet) (steps : List Step) (listed : List ℕ) : Type 0 where
@@ -101,4 +100,3 @@ pub record AreValueLoads (x : OperationNet) (steps : List Step) (listed : List �
   pub loads : (n giver : ℕ) → slice_get listed n ≡ Some giver → is_load_node x (operation_node x giver) ≡ true
   pub exist : (n giver : ℕ) → slice_get listed n ≡ Some giver → giver < node_total x
   pub takers : (k : ℕ) (step : Step) → slice_get steps k ≡ Some step → step.taker < node_total x → is_load_node x (operation_node x step.taker) ≡ true
-  pub few : length listed < 2 ^ 32

@@ -109,7 +109,7 @@ impl Waiting {
         ensures steps { self.new.steps ≡ self.old.steps }
     {
         for j in 0..step.count {
-            self.follow(net, step.first + j, edge, j);
+            self.follow(net, step.first + j as usize, edge, j);
         }
     }
 
@@ -186,7 +186,7 @@ impl Waiting {
 
     // Opens a line that an operation which is no load has led on, by their link.
     #[inline(always)]
-    fn follow<const W: usize>(&mut self, net: &mut OpNet<W>, at: u32, edge: u32, guess: u32)
+    fn follow<const W: usize>(&mut self, net: &mut OpNet<W>, at: usize, edge: u32, guess: u32)
         requires is_net { IsOperationNet (net_in net.old) }
         requires apart { AreLoadsApart net.old }
         requires kept { AreKept (net_in net.old) (operations_on net.old) self.old }
@@ -200,7 +200,7 @@ impl Waiting {
         ensures marks { KeepsMarks (net_in net.old) (operations_on net.old) self.old.closed.items self.new.closed.items (flags_of net.old) (flags_of net.new) }
         ensures steps { self.new.steps ≡ self.old.steps }
     {
-        let link = self.links[at as usize];
+        let link = self.links[at];
         let Some(wire) = net.edge_of(link.line) else {
             return;
         };

@@ -41,14 +41,14 @@ impl Waiting {
         ensures place { net.new.control ≡ net.old.control }
         ensures last { net.new.text.items ≡ net.old.text.items }
     {
-        for at in step.first..step.first + step.count {
+        for at in step.first..step.first + step.count as usize {
             self.close_link(net, k, step, at);
         }
     }
 
     // Closes a line for a load that has fired. Where it was the last one of a group the line goes on.
     #[inline(always)]
-    fn close_link<const W: usize>(&mut self, net: &mut OpNet<W>, k: u32, step: Step, at: u32)
+    fn close_link<const W: usize>(&mut self, net: &mut OpNet<W>, k: u32, step: Step, at: usize)
         requires node { k < node_total (net_in net.old) }
         requires step { slice_get self.old.steps k ≡ Some step }
         requires name { operation_node (net_in net.old) k ≡ Op step.piece step.number }
@@ -70,9 +70,9 @@ impl Waiting {
         ensures place { net.new.control ≡ net.old.control }
         ensures last { net.new.text.items ≡ net.old.text.items }
     {
-        let line = self.links[at as usize].line;
+        let line = self.links[at].line;
         let group = self.groups[line as usize];
-        self.links[at as usize].open = false;
+        self.links[at].open = false;
         self.groups[line as usize].left = group.left - 1;
         if group.left == 1 {
             net.put_between(line, group.edge, group.passed, group.from, group.to);

@@ -15,7 +15,7 @@ ghost use Rattle.read_forks.specs.MadeSteps.{AppendsGiver, AreShut, AreTablesBel
 ghost use Rattle.read_forks.specs.NodeLinks.{AreSteps, IsLoadTaker, is_turn};
 ghost use Rattle.read_forks.specs.Ways.{AreWays, IsWay};
 
-use crate::steps::{Group, Link, Step, Steps, link_near, no_group, number_of};
+use crate::steps::{Group, Link, Step, Steps, link_near, no_group};
 use crate::waiting::Waiting;
 use crate::ways::Way;
 use df_sequence::NoMemory;
@@ -133,19 +133,23 @@ fn push_operation<const W: usize>(
     requires made { AreTablesBelow (net_of net.now) k tables.old.steps tables.old.links.items tables.old.givers.items }
     ensures { OnOk result (AreTablesBelow (net_of net.now) (k + 1) tables.new.steps tables.new.links.items tables.new.givers.items) }
 {
-    let first = tables.links.len() as u32;
+    // All nodes have numbers below the greatest one.
+    let _nodes = net.nodes();
+    // No more loads than there are operands give them.
+    let _operands = net.operand_count(piece, i);
+    let first = tables.links.len();
     push_links(net, &mut tables.links, k, piece, i)?;
-    let links = number_of(tables.links.len())?;
-    let giver = tables.givers.len() as u32;
+    let giver = tables.givers.len();
     push_givers(net, loads, &mut tables.givers, piece, i)?;
-    let givers = number_of(tables.givers.len())?;
+    let end = tables.givers.len();
+    let givers = (end - giver) as u32;
     tables.steps.push(Step {
         piece,
         number: i,
         first,
-        count: links - first,
+        count: net.needed_count(piece, i),
         giver,
-        givers: givers - giver,
+        givers,
         taker: load_taker(net, loads, k, piece, i),
         loads: loads[k as usize],
         turns: false,
@@ -285,7 +289,8 @@ fn way_of<const W: usize>(net: &OpNet<W>, steps: &Steps, links: &Vec<Link>, at: 
     match net.name(link.node) {
         NodeName::Op(_, _) => {
             let step = steps.at(link.node as usize);
-            way_from(net, steps, links, link, step, at as u32 - step.first)
+            let j = (at - step.first) as u32;
+            way_from(net, steps, links, link, step, j)
         }
         NodeName::Switch(_, _) => Way::Out,
         NodeName::Merge(_, _) => Way::Out,

@@ -75,7 +75,7 @@ impl Waiting {
         net: &mut OpNet<W>,
         line: u32,
         edge: u32,
-        first: u32,
+        first: usize,
     )
         requires line { line < (net_in net.old).net.routing.lines }
         requires is_net { IsOperationNet (net_in net.old) }
@@ -105,7 +105,7 @@ impl Waiting {
         line: u32,
         edge: u32,
         passed: u32,
-        first: u32,
+        first: usize,
     ) -> Group
         requires line { line < (net_in net.old).net.routing.lines }
         requires is_net { IsOperationNet (net_in net.old) }
@@ -128,7 +128,7 @@ impl Waiting {
         groups_end();
         operations_have_facts();
         nets_simulate_programs();
-        let from = self.links[first as usize].node;
+        let from = self.links[first].node;
         let mut group = Group {
             left: 0,
             edge,
@@ -153,7 +153,7 @@ impl Waiting {
 
     // Opens a line for a load, by its link, and tells where the line goes from there.
     #[inline(always)]
-    fn open_link<const W: usize>(&mut self, net: &mut OpNet<W>, at: u32) -> Way
+    fn open_link<const W: usize>(&mut self, net: &mut OpNet<W>, at: usize) -> Way
         requires inside { at < length self.old.links.items }
         requires loads { is_load_node (net_in net.old) (operation_node (net_in net.old) (node_at self.old.links.items at)) ≡ true }
         requires shut { is_open_in (slice_get self.old.links.items at) ≡ false }
@@ -169,8 +169,8 @@ impl Waiting {
         ensures steps { self.new.steps ≡ self.old.steps }
         ensures groups { self.new.groups ≡ self.old.groups }
     {
-        let link = self.links[at as usize];
-        self.links[at as usize].open = true;
+        let link = self.links[at];
+        self.links[at].open = true;
         open_for(net, &self.steps, &mut self.closed, link.node);
         link.way
     }
@@ -178,7 +178,7 @@ impl Waiting {
 
 // A group with one load more, from which the line goes this way, and the link of the load after that one, if there is one.
 #[inline(always)]
-fn gone_on(group: Group, way: Way) -> (Group, Option<u32>)
+fn gone_on(group: Group, way: Way) -> (Group, Option<usize>)
     requires left { group.left + 1 < 2 ^ 32 }
     requires passed { passed_after way group.passed < 2 ^ 32 }
     ensures next { result.1 ≡ link_after way }

@@ -1,6 +1,6 @@
 //! What the firing of a node changes for the loads of a net, looked up by its number.
 
-ghost use Rattle.std.specs.Prelude.{◌≡◌, ◌<◌, ◌≤◌, ◌+◌, ◌^◌, [], ◌∷◌, ◌++◌, Some, length, slice_get, IfOk, OnOk};
+ghost use Rattle.std.specs.Prelude.{◌≡◌, ◌<◌, ◌≤◌, ◌+◌, ◌-◌, ◌^◌, [], ◌∷◌, ◌++◌, Some, length, slice_get, IfOk, OnOk};
 ghost use Rattle.read_forks.specs.NodeLinks.{turn_step};
 ghost use Rattle.read_forks.specs.RisingLinks.{AreRising, HasLine, line_at};
 
@@ -16,10 +16,10 @@ pub(crate) struct Step {
     pub(crate) piece: u32,
     pub(crate) number: u32,
     /// Its links: the first one, and how many there are. A node that is no operation has none.
-    pub(crate) first: u32,
+    pub(crate) first: usize,
     pub(crate) count: u32,
     /// The loads whose values it takes: the place of the first one in the list of all, and how many there are.
-    pub(crate) giver: u32,
+    pub(crate) giver: usize,
     pub(crate) givers: u32,
     /// The load that takes its value, or a number that no node has.
     pub(crate) taker: u32,
@@ -79,14 +79,20 @@ impl Steps {
         self.rows[self.numbers[k] as usize]
     }
 
-    /// Puts the step of an operation after the others. More of them than can be numbered are allocation failure.
+    /// Puts the step of an operation after the others.
     pub(crate) fn push(&mut self, step: Step) -> Result<(), NoMemory>
+        requires { length self.old < 2 ^ 32 - 1 }
         ensures { OnOk result (self.new ≡ self.old ++ step ∷ []) }
     {
-        let number = number_of(self.rows.len())?;
+        let number = self.rows.len() as u32;
         self.rows.push(step)?;
-        self.numbers.push(number)?;
-        Ok(())
+        match self.numbers.push(number) {
+            Ok(()) => Ok(()),
+            Err(refused) => {
+                self.rows.pop();
+                Err(refused.into())
+            }
+        }
     }
 
     /// Puts the step of a node that is no operation after the others.
@@ -112,17 +118,6 @@ fn turn_step() -> Step
         taker: u32::MAX,
         loads: false,
         turns: true,
-    }
-}
-
-/// The count as a number of 32 bits, unless it is too great.
-pub(crate) fn number_of(count: usize) -> Result<u32, NoMemory>
-    ensures { IfOk result (λ number. number ≡ count) }
-{
-    if count <= u32::MAX as usize {
-        Ok(count as u32)
-    } else {
-        Err(NoMemory)
     }
 }
 
@@ -163,8 +158,7 @@ pub(crate) fn no_group() -> Group {
 
 /// The link of a node that needs a line, which may be the one with this number of those of the node. The lines of its links rise.
 #[inline(always)]
-pub(crate) fn link_near(links: &Vec<Link>, step: Step, line: u32, guess: u32) -> u32
-    requires few { length links.now.items < 2 ^ 32 }
+pub(crate) fn link_near(links: &Vec<Link>, step: Step, line: u32, guess: u32) -> usize
     requires exist { step.first + step.count ≤ length links.now.items }
     requires rise { AreRising links.now.items step }
     requires there { HasLine links.now.items line step.first (step.first + step.count) }
@@ -173,8 +167,8 @@ pub(crate) fn link_near(links: &Vec<Link>, step: Step, line: u32, guess: u32) ->
     ensures below { result < step.first + step.count }
 {
     if guess < step.count {
-        let at = step.first + guess;
-        if links[at as usize].line == line {
+        let at = step.first + guess as usize;
+        if links[at].line == line {
             return at;
         }
     }
@@ -183,8 +177,7 @@ pub(crate) fn link_near(links: &Vec<Link>, step: Step, line: u32, guess: u32) ->
 
 // The same, looked for by halves.
 #[inline(never)]
-fn later_link(links: &Vec<Link>, step: Step, line: u32) -> u32
-    requires few { length links.now.items < 2 ^ 32 }
+fn later_link(links: &Vec<Link>, step: Step, line: u32) -> usize
     requires exist { step.first + step.count ≤ length links.now.items }
     requires rise { AreRising links.now.items step }
     requires there { HasLine links.now.items line step.first (step.first + step.count) }
@@ -193,10 +186,10 @@ fn later_link(links: &Vec<Link>, step: Step, line: u32) -> u32
     ensures below { result < step.first + step.count }
 {
     let mut low = step.first;
-    let mut high = step.first + step.count;
+    let mut high = step.first + step.count as usize;
     'halves: while high - low > 1 {
         let middle = low + (high - low) / 2;
-        if links[middle as usize].line <= line {
+        if links[middle].line <= line {
             low = middle;
         } else {
             high = middle;

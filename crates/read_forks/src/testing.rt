@@ -45,8 +45,8 @@ impl<const W: usize> ForkNet<'_, W> {
         ensures marks { KeepsMarks (net_of self.old) (operations_on self.old.net) self.old.waiting.closed.items self.old.waiting.closed.items (flags_of self.old.net) (flags_of self.new.net) }
         ensures right { (j : ℕ) → j < node_total (net_of self.old) → j < length (flags_of self.old.net) → is_load_node (net_of self.old) (operation_node (net_of self.old) j) ≡ true → takes (net_of self.old) (operation_node (net_of self.old) k) j ≡ true → has (flags_of self.new.net) j ≡ waits_for_nothing (net_of self.old) (operations_on self.old.net) self.old.waiting.closed.items j }
     {
-        for n in step.giver..step.giver + step.givers {
-            let j = self.waiting.givers[n as usize];
+        for n in step.giver..step.giver + step.givers as usize {
+            let j = self.waiting.givers[n];
             test(
                 &mut self.net,
                 &self.waiting.closed,

@@ -4,9 +4,9 @@
 #[derive(Clone, Copy, Debug, PartialEq, Eq)]
 pub(crate) enum Way {
     /// To a load of the same piece, whose link this is.
-    Here(u32),
+    Here(usize),
     /// From a load along this edge to a load of another piece, whose link comes first.
-    Over(u32, u32),
+    Over(usize, u32),
     /// To this node of the same piece, which is no load.
     Before(u32),
     /// From a load along this edge to this node, which is no load, or where that is the number of all nodes to none.

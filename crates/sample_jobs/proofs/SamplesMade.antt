@@ -9,7 +9,7 @@ use Rattle.flow_analysis.specs.Analysis.{IsRangeAnalysisOf}
 use Rattle.op_board.specs.OperationCourse.{operation_course}
 use Rattle.op_board.specs.OperationNets.{OperationNet}
 use Rattle.op_board.specs.OperationTokens.{operation_moves}
-use Rattle.regenerate.specs.declared.ends.RewriteEnd.{RewriteEnd}
+use Rattle.shared_forms.specs.declared.ends.RewriteEnd.{RewriteEnd}
 use Rattle.rewriting.specs.Rewritten.{IsRewritten}
 use Rattle.job_terms.specs.declared.task.Told.TheVariants.{Output}
 use Rattle.job_terms.specs.Due.{Due}

@@ -6,6 +6,7 @@ ghost use Rattle.df_io.specs.Faults.{Rose};
 ghost use Rattle.df_io.specs.Write.{AppendsPrefix};
 ghost use Rattle.alias_classes.specs.Number.{HasFewClasses};
 ghost use Rattle.f77_tree.specs.CanRun.{CanRun};
+ghost use Rattle.f77_tree.specs.Operations.{HasFewOperations};
 ghost use Rattle.f77_tree.specs.WellFormed.{IsWellFormed};
 ghost use Rattle.flow_analysis.specs.Analysis.{IsRangeAnalysisOf};
 ghost use Rattle.f77_meaning.specs.Stepper.{input_of, program_of};
@@ -96,6 +97,7 @@ fn on_text<K: Sink>(alloc: Global, number: u32, text: &[u8], limit: u64, sink: &
 fn on_program<K: Sink>(alloc: Global, sample: Sample, program: &Program, sink: &mut K) -> Status
     requires program { IsWellFormed program.now }
     requires few { HasFewClasses program.now }
+    requires modest { HasFewOperations program.now }
     ensures due { AnswersAs (IsDueSample sample.number sample.bytes sample.limit program.now) (K.got sink.old) (K.got sink.new) result }
     ensures usage { result ≢ Status.Usage }
     ensures reads { result ≢ Status.ReadFault }
@@ -118,6 +120,7 @@ fn with_form<K: Sink>(
 ) -> Status
     requires program { IsWellFormed program.now }
     requires few { HasFewClasses program.now }
+    requires modest { HasFewOperations program.now }
     requires form { IsWellFormed form.now }
     requires rewritten { IsRewritten program.now false form.now }
     ensures due { AnswersAs (IsSampleDue sample.number sample.bytes sample.limit program.now) (K.got sink.old) (K.got sink.new) result }
@@ -144,6 +147,7 @@ fn with_run<K: Sink>(
 ) -> Status
     requires program { IsWellFormed program.now }
     requires few { HasFewClasses program.now }
+    requires modest { HasFewOperations program.now }
     requires can { CanRun (program_of run.old) }
     requires input { input_of run.old ≡ [] }
     requires begins { IsAtStart (program_of run.old) (input_of run.old) run.old }
@@ -171,6 +175,7 @@ fn with_analysis<K: Sink>(
 ) -> Status
     requires program { IsWellFormed program.now }
     requires analysis { IsRangeAnalysisOf program.now analysis.now }
+    requires modest { HasFewOperations program.now }
     requires can { CanRun (program_of run.old) }
     requires input { input_of run.old ≡ [] }
     requires begins { IsAtStart (program_of run.old) (input_of run.old) run.old }

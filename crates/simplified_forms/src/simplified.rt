@@ -81,5 +81,5 @@ fn has_too_many(p: &Program, count: u32) -> bool
     if MOST_STATEMENTS < u64::from(p.names.len()) {
         return true;
     }
-    MOST_STATEMENTS < declaration_count(p).saturating_add(u64::from(count))
+    u128::from(MOST_STATEMENTS) < declaration_count(p).saturating_add(u128::from(count))
 }

@@ -22,7 +22,7 @@ placed_names-requires-clause-few c =
 pub initial_words-requires-clause-members : goal.initial_words-requires-clause-members
 initial_words-requires-clause-members c =
     let words = c.requires.blocks.labelled.words in
-    rw words.named.table (rw c.as_slice.ensures.items (rw c.in_ok-inits.ensures (items-right c.args.stmts.now c.args.numbers.now words.numbered (no-storage-fault (names_of c.args.stmts.now) (placed_names c.args.stmts.now) c.args.stmts.now words.stored))))
+    rw words.named.table (rw c.as_slice.ensures (rw c.in_ok-inits.ensures (items-right c.args.stmts.now c.args.numbers.now words.numbered (no-storage-fault (names_of c.args.stmts.now) (placed_names c.args.stmts.now) c.args.stmts.now words.stored))))
 
 pub initial_words-requires-clause-places : goal.initial_words-requires-clause-places
 initial_words-requires-clause-places c =
@@ -32,7 +32,7 @@ initial_words-requires-clause-places c =
 pub initial_words-requires-clause-data : goal.initial_words-requires-clause-data
 initial_words-requires-clause-data c =
     let words = c.requires.blocks.labelled.words in
-    rw words.named.table (rw c.deref-2.ensures.value (rw c.as_slice.ensures.items (rw c.in_ok-inits.ensures (data-right c.args.stmts.now c.args.numbers.now words.numbered (no-storage-fault (names_of c.args.stmts.now) (placed_names c.args.stmts.now) c.args.stmts.now words.stored)))))
+    rw words.named.table (rw c.deref-2.ensures.value (rw c.as_slice.ensures (rw c.in_ok-inits.ensures (data-right c.args.stmts.now c.args.numbers.now words.numbered (no-storage-fault (names_of c.args.stmts.now) (placed_names c.args.stmts.now) c.args.stmts.now words.stored)))))
 
 pub executables_of-requires-clause-modest : goal.executables_of-requires-clause-modest
 executables_of-requires-clause-modest c = rw c.requires.blocks.labelled.words.named.table (none-too-great (names_of c.args.stmts.now) c.args.checked c.args.stmts.now c.requires.modest)
@@ -52,7 +52,7 @@ returns c =
     ∙ ap (λ places. map (initial_word (with_places c.args.names.now places) c.as_slice.result.now) (range_with_len 0 c.args.numbers.now.words)) c.deref-2.ensures.value
     ∙ ap (λ names. map (initial_word (with_places names c.args.numbers.now.places.items) c.as_slice.result.now) (range_with_len 0 c.args.numbers.now.words)) words.named.table
     ∙ ap (λ placed. map (initial_word placed c.as_slice.result.now) (range_with_len 0 c.args.numbers.now.words)) (placed-is stmts c.args.numbers.now words.numbered)
-    ∙ ap (λ inits. map (initial_word (placed_names stmts) inits) (range_with_len 0 c.args.numbers.now.words)) (c.as_slice.ensures.items ∙ c.in_ok-inits.ensures)
+    ∙ ap (λ inits. map (initial_word (placed_names stmts) inits) (range_with_len 0 c.args.numbers.now.words)) (c.as_slice.ensures ∙ c.in_ok-inits.ensures)
     ∙ ap (λ n. map (initial_word (placed_names stmts) (all_inits stmts)) (range_with_len 0 n)) words_are in
     program-is _ _ _ _ _ _ _ _ _ _ _ _ _ _ _ _
     (c.in_ok-placed_names.ensures ∙ placed_are) words_are

@@ -17,11 +17,11 @@ use Rattle.graph_jobs.proofs.GraphMade.{found_tells}
 use Rattle.program_nets.proofs.NetParts.{found_operation_parts}
 use Rattle.graph_jobs.proofs.graph.tell_net.Goals as goal
 
-pub new-requires : goal.new-requires
-new-requires g c =
+pub new-made-requires : goal.new-made-requires
+new-made-requires g c =
     let found = c.args.drawn.now.analysis in
     let parts = found_operation_parts c.args.program.now found found.flow c.requires.drawn.analysis.own_flow c.requires.program c.requires.drawn.analysis in
-    (omega arith, (omega arith, (omega arith, (omega arith, (record { some = omega arith; few = omega arith }, (parts, c.requires.drawn.analysis.sets))))))
+    (omega arith, (omega arith, (omega arith, (omega arith, (record { some = omega arith; few = omega arith }, (parts, (c.requires.drawn.analysis.sets, c.requires.modest)))))))
 
 pub tables_of_edges-requires : goal.tables_of_edges-requires
 tables_of_edges-requires g c =
@@ -42,8 +42,8 @@ pub write_graph-requires-clause-sets : goal.write_graph-requires-clause-sets
 write_graph-requires-clause-sets g c =
     subst (λ (xs : List (ClassSet CLASS_WORDS)). AreNameSets c.args.program.now.names c.args.drawn.now.analysis.classes xs) (sym c.as_slice-sets.ensures.value) c.requires.drawn.sets
 
-pub returns-in_default-tables_of_edges-clause-due : goal.returns-in_default-tables_of_edges-clause-due
-returns-in_default-tables_of_edges-clause-due g c = Keeps-refl (g.K.Sink.got c.args.sink.now)
+pub returns-in-Err-tables_of_edges-clause-due : goal.returns-in-Err-tables_of_edges-clause-due
+returns-in-Err-tables_of_edges-clause-due g c = Keeps-refl (g.K.Sink.got c.args.sink.now)
 
 pub returns-in-Ok-write_graph-clause-due : goal.returns-in-Ok-write_graph-clause-due
 returns-in-Ok-write_graph-clause-due g c =
@@ -71,5 +71,5 @@ returns-clause-due g c =
     record {
       due = done text;
       is = record { text = found_tells p found x c.requires.program c.requires.drawn.analysis same made.is_net made.outside_pieces made.outside_operations; done = refl };
-      prefix = subst (λ (bytes : List ℕ). AppendsPrefix (g.K.Sink.got c.args.sink.now) (g.K.Sink.got c.write_graph.new.sink) bytes) (sym (append-nil text)) c.in-Err.ensures.prefix;
+      prefix = subst (λ (bytes : List ℕ). AppendsPrefix (g.K.Sink.got c.args.sink.now) (g.K.Sink.got c.write_graph.new.sink) bytes) (sym (append-nil text)) c.in-Err-write_graph.ensures.prefix;
     }

@@ -1,18 +1,26 @@
-use Rattle.std.proofs.Common.{◌≡◌, ℕ, ◌<◌, ◌*ℤ◌, pos, map, get_or, length, List, All, ℤ, w32, to_z, of_z, refl, sym, ap, subst, ◌∙◌, arith}
+use Rattle.std.proofs.Common.{◌≡◌, ℕ, ◌+◌, ◌<◌, ◌*ℤ◌, pos, map, get_or, length, List, All, ℤ, w32, to_z, of_z, refl, sym, ap, subst, ◌∙◌, arith}
 use mir.Val.{SFits}
+use Rattle.std.specs.Prelude.{sum_by}
 use Rattle.std.proofs.lemmas.Int.{to_z-of_z}
 use Rattle.std.proofs.lemmas.Option.{get_or_from_slice_get, slice_get-get_or}
 use Rattle.f77_tree.specs.declared.declarations.Dim.{Dim}
 use Rattle.f77_tree.specs.declared.expressions.Expr.{Expr}
 use Rattle.f77_tree.specs.Known.{known}
+use Rattle.f77_tree.specs.Operations.{operations}
 use Rattle.f77_tree.specs.Value.{dims_in, dims_of, extent, IsExpression}
 use Rattle.f77_tree.proofs.Places.{IsOrdered}
 use Rattle.op_board.specs.Operations.{Compiled, CompiledRow, Known, Load, compiled, operated, place_moved, place_operands, with_operation}
 use Rattle.operation_lists.specs.Seen.{operand_seen, operation_seen, compiled_seen}
 use Rattle.operation_lists.proofs.CompiledLists.{compiled-Apply, compiled-Read, place-Read, subscripts_compiled, subscripts-next}
 use Rattle.operation_lists.proofs.DimensionParts.{HasParts, part-at, name-parts}
-use Rattle.operation_lists.proofs.ListLemmas.{IfOk-then}
+use Rattle.operation_lists.proofs.ListLemmas.{IfOk-then, OnOk-then, sum_left}
 use Rattle.operation_lists.proofs.expressions.+compiling.Goals as goal
+
+pub compile-returns-in-Input-clause-can : goal.compile-returns-in-Input-clause-can
+compile-returns-in-Input-clause-can t c = OnOk-then c.push_operation.result (λ next. next c.args.p.now c.requires.can tt) c.push_operation.ensures.can
+
+pub compile-returns-in_ok-operands-in-Apply-clause-can : goal.compile-returns-in_ok-operands-in-Apply-clause-can
+compile-returns-in_ok-operands-in-Apply-clause-can t c = OnOk-then c.operate.result (λ next. next c.args.p.now c.in_ok-operands-in-Apply.ensures.can) c.operate.ensures.can
 
 pub compile-returns-in_ok-operands-in-Apply-clause-compiled : goal.compile-returns-in_ok-operands-in-Apply-clause-compiled
 compile-returns-in_ok-operands-in-Apply-clause-compiled t c =
@@ -29,8 +37,14 @@ compile_load-returns-clause-compiled t c =
     let access = c.args.access.now in
     let between = map operation_seen c.compile_place.new.done.items in
     let work = Load access.name (map known access.subs) in
-    let same = ap (with_operation between work) c.in_ok-operands.ensures ∙ ap (λ (r : Compiled). with_operation r.done work (place_operands access.subs r.operand)) c.in_ok-place.ensures.compiled ∙ sym (compiled-Read names start access) in
+    let same = ap (with_operation between work) c.in_ok-operands.ensures.operands ∙ ap (λ (r : Compiled). with_operation r.done work (place_operands access.subs r.operand)) c.in_ok-place.ensures.compiled ∙ sym (compiled-Read names start access) in
     IfOk-then c.push_operation.result (λ operand is. is ∙ same) c.push_operation.ensures.compiled
+
+pub compile_load-returns-clause-can : goal.compile_load-returns-clause-can
+compile_load-returns-clause-can t c = OnOk-then c.push_operation.result (λ next. next c.args.p.now c.in_ok-place.ensures.can c.requires.access) c.push_operation.ensures.can
+
+pub compile_subscript-returns-clause-can : goal.compile_subscript-returns-clause-can
+compile_subscript-returns-clause-can t c = OnOk-then c.move_place.result (λ next. next c.args.p.now c.in_ok-v.ensures.can) c.move_place.ensures.can
 
 -- ---- compile_place
 
@@ -51,6 +65,7 @@ compile_place-loop-sub-init t c =
       bounds = subst (All IsOrdered) dims parts.bounds;
       parts = subst (λ (ds : List Dim). HasParts ds (pos 1)) dims parts.parts;
       compiled = ap (λ (ds : List Dim). subscripts_compiled names start ds (pos 1) (Known (pos 0)) c.as_slice-sub-items.result.now) (sym dims) ∙ ap (λ (es : List Expr). subscripts_compiled names start (dims_of names access.name) (pos 1) (Known (pos 0)) es) subs ∙ sym (place-Read names start access);
+      few = let same = ap (sum_by (λ e. 2 + operations e)) subs in omega (arith, same);
     }
 
 -- a read past its default
@@ -120,4 +135,5 @@ compile_place-loop-sub-preserved t c =
       bounds = next.rest;
       parts = rw (larger) next.parts;
       compiled = rw (larger) (sym one_more ∙ kept.compiled);
+      few = let left = sum_left (λ e. 2 + operations e) subs k sub lt_sub at_sub in let room = kept.few in let added = c.in_ok-place.ensures.few in omega (arith, left, room, added);
     }

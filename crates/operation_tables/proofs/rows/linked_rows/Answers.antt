@@ -15,20 +15,26 @@ use Rattle.operation_tables.proofs.RowLinks.{links_begin, links_more, row_linked
 use Rattle.operation_tables.proofs.RowPlans.{planned_count}
 use Rattle.operation_tables.proofs.rows.linked_rows.Goals as goal
 
+pub overflow_cast-i : goal.overflow_cast-i
+overflow_cast-i g c =
+    let all = planned_count c.args.plan.now c.args.piece c.index.result.now c.requires.piece c.index.ensures in
+    let few = c.plans_can_be_numbered.ensures.operations c.args.piece c.requires.piece in
+    omega (arith, c.len-i.ensures, c.index.result.now.operations.ok.0, all, few)
+
 pub loop-i-init : goal.loop-i-init
 loop-i-init g c =
     let plan = c.args.plan.now in
     let x = operations_in plan in
     let piece = c.args.piece in
     let all = planned_count plan piece c.index.result.now c.requires.piece c.index.ensures in
-    let is : c.in_ok-i.i ≡ operation_count x piece = c.in_ok-i.ensures ∙ c.in_ok-count.ensures ∙ all in
+    let is : c.len-i.result ≡ operation_count x piece = omega (arith, c.len-i.ensures, c.index.result.now.operations.ok.0, all) in
     let rows = c.in_ok-rows.ensures in
     record {
       within = omega (arith, is);
       counted = rows.counted;
-      linked = links_begin x piece c.in_ok-i.i c.args.scratch.now c.unlinked_rows.new.scratch c.requires.clean rows.counted.all rows.first is;
+      linked = links_begin x piece c.len-i.result c.args.scratch.now c.unlinked_rows.new.scratch c.requires.clean rows.counted.all rows.first is;
       count = ∥∥₁_elim rows.rows (hlevel props) (λ (has : HasRows (IsCountedHop x piece) x piece c.in_ok-rows.rows.items). has.count);
-      rows = ∥∥₁_map rows.rows (λ (has : HasRows (IsCountedHop x piece) x piece c.in_ok-rows.rows.items). half_begin x piece c.in_ok-rows.rows.items c.in_ok-i.i is has);
+      rows = ∥∥₁_map rows.rows (λ (has : HasRows (IsCountedHop x piece) x piece c.in_ok-rows.rows.items). half_begin x piece c.in_ok-rows.rows.items c.len-i.result is has);
     }
 
 -- the row before those that are linked

@@ -1,6 +1,9 @@
-use Rattle.std.proofs.Common.{◌≡◌, ◌<◌, ◌+◌, ◌∙◌, ℕ, Bool, true, refl, List, length, map, filter, sym, ap, subst, arith, rules}
+use Rattle.std.proofs.Common.{◌≡◌, ◌<◌, ◌≤◌, ◌+◌, ◌^◌, ◌∙◌, ℕ, Bool, true, refl, List, [], Some, length, slice_get, map, filter, sym, ap, subst, arith, rules}
 use Rattle.std.specs.List.{range_with_len}
 use Rattle.std.proofs.lemmas.List.{length-map}
+use Rattle.std.proofs.lemmas.List.FromFn.{length-range_with_len}
+use Rattle.std.proofs.lemmas.List.Sums.{count_by-le-length, length-filter}
+use Rattle.std.proofs.lemmas.Option.{slice_get_read}
 use Rattle.std.proofs.Props.{props}
 use mathlib.Core.Logic.{∥∥₁_elim, ∥∥₁_map}
 use Rattle.class_set.specs.ClassSet.{holds}
@@ -46,8 +49,9 @@ unlinked_hops-requires g c =
     let size = c.requires.counted.all.before in
     omega (arith, low, size)
     in
-    let few : (line : ℕ) → before_at c.args.scratch.now line < 4294967295 = few_counted x c.args.piece c.args.i c.args.scratch.now c.requires.counted c.requires.operation c.requires.few in
-    (search rules, (plan.board.plan.width, (exist, few)))
+    let lines : length c.args.scratch.now.before.items ≤ 1024 = let size = c.requires.counted.all.before in omega (arith, size, plan.board.plan.few_lines) in
+    let few : (line : ℕ) → before_at c.args.scratch.now line < 2 ^ 16 = few_counted x c.args.piece c.args.i c.args.scratch.now c.requires.counted c.requires.operation c.requires.few in
+    (search rules, (plan.board.plan.width, (exist, (lines, few))))
 
 pub task_of-requires-clause-places : goal.task_of-requires-clause-places
 task_of-requires-clause-places g c = ∥∥₁_elim c.args.plan.now.is_net (hlevel props) (λ (is : IsOperationNet (operations_in c.args.plan.now)). is.is_net.can_run.placed)
@@ -64,6 +68,33 @@ task_of-requires-clause-fits g c =
     ∥∥₁_elim plan.is_net (fits_prop x.net.program (work_seen op.work)) (λ (is : IsOperationNet x).
     ∥∥₁_elim (plan.own_operations c.args.piece planned (found plan c.args.piece planned c.requires.piece c.index-operations.ensures)) (fits_prop x.net.program (work_seen op.work)) (λ (own : map operation_seen planned.operations.items ≡ operations_at x c.args.piece).
     subst (λ (o : board.Operation). FitsProgram x.net.program o.work) (operation_is plan c.args.piece planned c.requires.piece c.index-operations.ensures i op low c.index-operation.ensures own) (c.operations_fit.ensures.fits x c.args.piece i is c.requires.operation).0))
+
+-- no more hops than there are lines
+few_lines : (lines : List ℕ) (own : ℕ → Bool) (size : ℕ) → lines ≡ filter own (range_with_len 0 size) → size ≤ 1024 → length lines ≤ 1024
+few_lines lines own size is low = omega (arith, ap length is, length-filter own (range_with_len 0 size), count_by-le-length own (range_with_len 0 size), length-range_with_len 0 size, low)
+
+pub overflow_cast-lines : goal.overflow_cast-lines
+overflow_cast-lines g c =
+    let hops = c.in_ok-hops.hops.items in
+    let size = c.requires.counted.all.before in
+    let few = few_lines (map line_of hops) (holds c.at-needs.result) (length c.args.scratch.now.before.items) c.in_ok-hops.ensures.lines (omega (arith, size, c.args.plan.now.board.plan.few_lines)) in
+    let hop_count : c.len-lines.result ≡ length hops = search rules in
+    omega (arith, hop_count, few, length-map hops line_of)
+
+pub overflow_cast-waits : goal.overflow_cast-waits
+overflow_cast-waits g c =
+    let plan = c.args.plan.now in
+    let planned = c.index-operations.result.now in
+    let op : Operation = c.index-operation.result.now in
+    let hops = c.in_ok-hops.hops.items in
+    let size = c.requires.counted.all.before in
+    let few = few_lines (map line_of hops) (holds c.at-needs.result) (length c.args.scratch.now.before.items) c.in_ok-hops.ensures.lines (omega (arith, size, plan.board.plan.few_lines)) in
+    let hop_count : c.len-lines.result ≡ length hops = search rules in
+    let all = planned_count plan c.args.piece planned c.requires.piece c.index-operations.ensures in
+    let there : slice_get planned.operations.items c.args.i ≡ Some op = slice_get_read planned.operations.items (length planned.operations.items) c.args.i op refl (omega (arith, all, c.requires.operation)) c.index-operation.ensures in
+    let operands = plan.few_operands c.args.piece c.args.i planned op (found plan c.args.piece planned c.requires.piece c.index-operations.ensures) there in
+    let most = c.waits_anew-waits.ensures.few in
+    omega (arith, hop_count, few, length-map hops line_of, operands, most)
 
 -- the lines of the hops are those that the operation needs
 lines_needed : (lines : List ℕ) (needs own : ℕ → Bool) (size all : ℕ) → lines ≡ filter own (range_with_len 0 size) → size ≡ all → needs ≡ own → lines ≡ filter needs (range_with_len 0 all)
@@ -85,10 +116,10 @@ returns-clause-row g c =
     let lines : map line_of hops ≡ needed x piece i = lines_needed (map line_of hops) (λ line. x.needs piece i line) (λ line. holds set line) (length c.args.scratch.now.before.items) x.net.routing.lines c.in_ok-hops.ensures.lines c.requires.counted.all.before needs in
     let few : map operand_seen c.first_operands.result ≡ first_three (map operand_seen op.operands.items) = c.first_operands.ensures ∙ ap (λ (os : List Operand). first_three (map operand_seen os)) c.in_ok-operands.ensures in
     let count : c.count_of-count.result ≡ short_count (length op.operands.items) = c.count_of-count.ensures ∙ ap (λ (os : List Operand). short_count (length os)) c.in_ok-operands.ensures in
-    let hop_count : c.len.result ≡ length hops = search rules in
-    let waits : map operation_seen planned.operations.items ≡ operations_at x piece → c.in_ok-waits.waits ≡ waits_anew x piece i = λ own.
-    c.in_ok-waits.ensures ∙ c.waits_anew.ensures i (operation_is plan piece planned c.requires.piece c.index-operations.ensures i op low c.index-operation.ensures own) (c.in_ok-lines.ensures ∙ hop_count ∙ sym (length-map hops line_of) ∙ ap length lines) in
-    let row : Row = record { task = c.task_of.result; operands = c.in_ok-operands.operands; few = c.first_operands.result; piece = piece; number = i; count = c.count_of-count.result; waits = c.in_ok-waits.waits; hops = c.in_ok-hops.hops; taker = c.args.taker; gives = c.gives_value.result; decides = c.is_decision.result; serial = c.holds.result; edge = c.first_out.result } in
+    let hop_count : c.len-lines.result ≡ length hops = search rules in
+    let waits : map operation_seen planned.operations.items ≡ operations_at x piece → c.waits_anew-waits.result ≡ waits_anew x piece i = λ own.
+    c.waits_anew-waits.ensures.count i (operation_is plan piece planned c.requires.piece c.index-operations.ensures i op low c.index-operation.ensures own) (hop_count ∙ sym (length-map hops line_of) ∙ ap length lines) in
+    let row : Row = record { task = c.task_of.result; operands = c.in_ok-operands.operands; few = c.first_operands.result; piece = piece; number = i; count = c.count_of-count.result; waits = c.waits_anew-waits.result; hops = c.in_ok-hops.hops; taker = c.args.taker; gives = c.gives_value.result; decides = c.is_decision.result; serial = c.holds.result; edge = c.first_out.result } in
     ∥∥₁_elim plan.is_net (hlevel props) (λ (is : IsOperationNet x).
     ∥∥₁_map (plan.own_operations piece planned (found plan piece planned c.requires.piece c.index-operations.ensures)) (λ (own : map operation_seen planned.operations.items ≡ operations_at x piece).
     row_made x piece i op (operation_is plan piece planned c.requires.piece c.index-operations.ensures i op low c.index-operation.ensures own) row

@@ -14,6 +14,18 @@ use Rattle.operation_tables.proofs.RowPlans.{found, planned_count}
 use Rattle.operation_tables.proofs.RowTakers.{rows_more, taker_of}
 use Rattle.operation_tables.proofs.rows.unlinked_rows.Goals as goal
 
+pub overflow_cast-count : goal.overflow_cast-count
+overflow_cast-count g c =
+    let all = planned_count c.args.plan.now c.args.piece c.index.result.now c.requires.piece c.index.ensures in
+    let few = c.plans_can_be_numbered.ensures.operations c.args.piece c.requires.piece in
+    omega (arith, c.len-count.ensures, c.index.result.now.operations.ok.0, all, few)
+
+pub value_takers-requires-clause-few : goal.value_takers-requires-clause-few
+value_takers-requires-clause-few g c =
+    let all = planned_count c.args.plan.now c.args.piece c.index.result.now c.requires.piece c.index.ensures in
+    let few = c.plans_can_be_numbered.ensures.operations c.args.piece c.requires.piece in
+    omega (arith, all, few)
+
 pub value_takers-requires-clause-earlier : goal.value_takers-requires-clause-earlier
 value_takers-requires-clause-earlier g c = λ i number op at takes.
     let plan = c.args.plan.now in
@@ -30,10 +42,9 @@ unlinked_row-requires g c =
     let i = c.loop-i.i in
     let planned = c.index.result.now in
     let all = planned_count plan piece planned c.requires.piece c.index.ensures in
-    let count = c.in_ok-count.ensures in
-    let fits : c.in_ok-count.count < 4294967296 = search rules in
+    let count : c.len-count.result ≡ length planned.operations.items = omega (arith, c.len-count.ensures, planned.operations.ok.0) in
     let inside : i < operation_count x piece = omega (arith, all, count, c.loop-i-test.true) in
-    let few : operation_count x piece < 4294967296 = omega (arith, all, count, fits) in
+    let few = c.plans_can_be_numbered.ensures.operations piece c.requires.piece in
     let takers = c.in_ok-takers.takers.items in
     let room : i < length takers = let size = c.in_ok-takers.ensures.all in omega (arith, size, all, inside) in
     let read : c.index-in-loop-i.result.now ≡ slice_index takers i = c.index-in-loop-i.ensures ∙ get_or_default_zero takers i c.index-in-loop-i.result.now room in
@@ -66,7 +77,7 @@ returns-clause-rows g c =
     let plan = c.args.plan.now in
     let x = operations_in plan in
     let all = planned_count plan c.args.piece c.index.result.now c.requires.piece c.index.ensures in
-    let count = c.in_ok-count.ensures in
+    let count : c.len-count.result ≡ length c.index.result.now.operations.items = omega (arith, c.len-count.ensures, c.index.result.now.operations.ok.0) in
     let end : c.loop-i.i ≡ operation_count x c.args.piece = let within = c.loop-i.auto.i-end in omega (arith, all, count, c.loop-i-test.false, within) in
     ∥∥₁_map c.loop-i.invariant.rows (λ (rows : (k : ℕ) (r : Row) → slice_get c.loop-i.rows.items k ≡ Some r → IsRowWith (IsCountedHop x c.args.piece k) x c.args.piece k r). record { count = c.loop-i.invariant.count ∙ end; rows = rows })
 
@@ -75,6 +86,6 @@ returns-clause-counted g c =
     let plan = c.args.plan.now in
     let x = operations_in plan in
     let all = planned_count plan c.args.piece c.index.result.now c.requires.piece c.index.ensures in
-    let count = c.in_ok-count.ensures in
+    let count : c.len-count.result ≡ length c.index.result.now.operations.items = omega (arith, c.len-count.ensures, c.index.result.now.operations.ok.0) in
     let end : c.loop-i.i ≡ operation_count x c.args.piece = let within = c.loop-i.auto.i-end in omega (arith, all, count, c.loop-i-test.false, within) in
     subst (λ n. AreCounted x c.args.piece n c.loop-i.scratch) end c.loop-i.invariant.counted

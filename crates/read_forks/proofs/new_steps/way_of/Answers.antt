@@ -1,8 +1,20 @@
-use Rattle.std.proofs.Common.{◌≡◌, ◌∙◌, Some, length, slice_get, refl, sym, arith}
+use Rattle.std.proofs.Common.{◌≡◌, ◌<◌, ◌∙◌, Some, length, slice_get, refl, sym, arith, rules}
 use Rattle.std.proofs.lemmas.Option.{slice_get_read}
 use Rattle.op_net.specs.NetView.{net_of}
 use Rattle.read_forks.proofs.FoundWays.{leads_out, link_node, own_line, own_name, way_of_link}
 use Rattle.read_forks.proofs.new_steps.way_of.Goals as goal
+
+pub overflow_cast-j : goal.overflow_cast-j
+overflow_cast-j g c =
+    let links = c.args.links.now.items in
+    let link = c.index-link.result.now in
+    let is : slice_get links c.args.at ≡ Some link = slice_get_read links (length links) c.args.at link refl c.requires.inside c.index-link.ensures in
+    let step = c.at-step.result in
+    let own = c.requires.steps.own c.args.at link is in
+    let from = own.from step c.at-step.ensures in
+    let below = own.below step c.at-step.ensures in
+    let small : step.count < 4294967296 = search rules in
+    omega (arith, from, below, small)
 
 pub way_from-requires : goal.way_from-requires
 way_from-requires g c =
