@@ -12,19 +12,19 @@ use Rattle.layout_rules.specs.Layout.{layout, program, refusal, unless_refused}
 use Rattle.layout_rules.specs.Source.{IsSource}
 use Rattle.f77_layout.proofs.LabelsLead.{labels-lead}
 use Rattle.control_laws.proofs.SuccessorBlocks.{IsEnded as EndsInEnd, stops}
-use Rattle.f77_subs.specs.Units.{is_end, standing_in, unit_at, unit_or_none, units}
-use Rattle.f77_subs.specs.Widths.{body_labels}
-use Rattle.f77_subs.specs.Contexts.{IsReached}
-use Rattle.f77_subs.specs.Copies.{Context}
-use Rattle.f77_subs.specs.Expansion.{whole_list}
-use Rattle.f77_subs.specs.Heights.{height, reached}
-use Rattle.f77_subs.specs.OpenBlocks.{IsEnded}
-use Rattle.f77_subs.specs.Refusals.{unit_refusal}
-use Rattle.f77_subs.specs.Texts.{IsText}
-use Rattle.f77_subs.proofs.NoAnswer.{laid}
-use Rattle.f77_subs.proofs.PieceLabels.{whole-labels}
-use Rattle.f77_subs.proofs.ReachedUnits.{none-past, unit-ended, unit-inside}
-use Rattle.f77_subs.proofs.UnitSources.{IsUnit, LastIsEnd, stands-last, text-unit, unit-source}
+use Rattle.program_units.specs.Units.{is_end, standing_in, unit_at, unit_or_none, units}
+use Rattle.program_units.specs.Widths.{body_labels}
+use Rattle.program_units.specs.Contexts.{IsReached}
+use Rattle.program_units.specs.Copies.{Context}
+use Rattle.program_units.specs.Expansion.{whole_list}
+use Rattle.program_units.specs.Heights.{height, reached}
+use Rattle.program_units.specs.OpenBlocks.{IsEnded}
+use Rattle.program_units.specs.Refusals.{unit_refusal}
+use Rattle.program_units.specs.Texts.{IsText}
+use Rattle.unit_laws.proofs.NoAnswer.{laid}
+use Rattle.unit_laws.proofs.PieceLabels.{whole-labels}
+use Rattle.unit_laws.proofs.ReachedUnits.{none-past, unit-ended, unit-inside}
+use Rattle.unit_laws.proofs.UnitSources.{IsUnit, LastIsEnd, stands-last, text-unit, unit-source}
 use Rattle.copied_control.proofs.AcceptedUnits.{closed-units, ends-in-units, placed}
 use Rattle.copied_control.proofs.LoopsTo.{none-to-nought}
 use Rattle.copied_control.proofs.RangeEnds.{nested, not-end, twice-none}

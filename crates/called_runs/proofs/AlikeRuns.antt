@@ -10,11 +10,11 @@ use Rattle.f77_tree.specs.Prefixes.{IsPrefix}
 use Rattle.f77_tree.specs.Run.{Mark, Running, Ended, Trapped, State, source, step}
 use Rattle.f77_tree.specs.Value.{word_at}
 use Rattle.f77_tree.proofs.RunLaws.{grows_not, step-ended, step-out, step-trapped}
-use Rattle.f77_subs.specs.Calls.{Act, Calls, CallState, Does, Frame, Halts, Returns, RunsAlike, act, acted, after, called, executed, memory_of, on_top, step_from}
-use Rattle.f77_subs.specs.declared.entity.Entity.{Entity}
-use Rattle.f77_subs.specs.Layouts.{own_program}
-use Rattle.f77_subs.specs.Storage.{placed}
-use Rattle.f77_subs.specs.Units.{unit_at}
+use Rattle.program_units.specs.Calls.{Act, Calls, CallState, Does, Frame, Halts, Returns, RunsAlike, act, acted, after, called, executed, memory_of, on_top, step_from}
+use Rattle.program_units.specs.declared.entity.Entity.{Entity}
+use Rattle.program_units.specs.Layouts.{own_program}
+use Rattle.program_units.specs.Storage.{placed}
+use Rattle.program_units.specs.Units.{unit_at}
 use Rattle.called_runs.proofs.KeptUp.{HaveStopped, IsRun, KeepsUp, Paces, back, front, paces, stops, stops-back}
 
 -- the state of a program after some steps more

@@ -9,13 +9,13 @@ use Rattle.f77_tree.specs.declared.statements.RawExpr.{RawExpr}
 use Rattle.f77_tree.specs.declared.statements.Stmt.{Stmt}
 use Rattle.f77_tree.specs.declared.statements.Stmt.TheVariants.{Do}
 use Rattle.layout_rules.specs.Executables.{is_do, loop_number}
-use Rattle.f77_subs.specs.Units.{Call, call_in, guard_of, unit_at, unit_of}
-use Rattle.f77_subs.specs.Widths.{body_width, is_kept, lines_around, width, width_by}
-use Rattle.f77_subs.specs.Copies.{Context, copy, number_at}
-use Rattle.f77_subs.specs.ListedCopies.{called_context, copied_place, lines_before, piece_at, width_before}
-use Rattle.f77_subs.proofs.CopyWidths.{copy_length, piece_length}
-use Rattle.f77_subs.proofs.Having.{sum-next}
-use Rattle.f77_subs.proofs.Kept.{kept_or_none}
+use Rattle.program_units.specs.Units.{Call, call_in, guard_of, unit_at, unit_of}
+use Rattle.program_units.specs.Widths.{body_width, is_kept, lines_around, width, width_by}
+use Rattle.program_units.specs.Copies.{Context, copy, number_at}
+use Rattle.program_units.specs.ListedCopies.{called_context, copied_place, lines_before, piece_at, width_before}
+use Rattle.unit_laws.proofs.CopyWidths.{copy_length, piece_length}
+use Rattle.unit_laws.proofs.Having.{sum-next}
+use Rattle.unit_laws.proofs.Kept.{kept_or_none}
 use Rattle.called_runs.proofs.Grounds.{AreLaid, IsCopied}
 use Rattle.called_runs.proofs.LastPieces.{last-one}
 use Rattle.called_runs.proofs.RisingPlaces.{at-next, at-rises}

@@ -10,15 +10,15 @@ use Rattle.layout_rules.specs.declared.layout_end.LayoutEnd.{LayoutEnd}
 use Rattle.layout_rules.specs.Declarations.{all_commons}
 use Rattle.layout_rules.specs.Layout.{layout, program, unless_refused}
 use Rattle.layout_rules.specs.Source.{IsSource}
-use Rattle.f77_subs.proofs.NoAnswer.{laid, no-end, none-at}
-use Rattle.f77_subs.specs.declared.entity.Entity.TheVariants.{InBlock}
-use Rattle.f77_subs.specs.Entities.{block_list, entity_of, entity_or}
-use Rattle.f77_subs.specs.Refusals.{main_line_if, has_great_name, unit_refusal, unit_refusals, end_at}
-use Rattle.f77_subs.specs.declared.sub_end.SubEnd.TheVariants.{TooManyNames}
-use Rattle.f77_subs.specs.Texts.{IsText}
-use Rattle.f77_subs.specs.Units.{standing_in, unit_at, unit_or_none, units}
+use Rattle.unit_laws.proofs.NoAnswer.{laid, no-end, none-at}
+use Rattle.program_units.specs.declared.entity.Entity.TheVariants.{InBlock}
+use Rattle.program_units.specs.Entities.{block_list, entity_of, entity_or}
+use Rattle.program_units.specs.Refusals.{main_line_if, has_great_name, unit_refusal, unit_refusals, end_at}
+use Rattle.program_units.specs.declared.sub_end.SubEnd.TheVariants.{TooManyNames}
+use Rattle.program_units.specs.Texts.{IsText}
+use Rattle.program_units.specs.Units.{standing_in, unit_at, unit_or_none, units}
 use Rattle.called_runs.proofs.OnceInCommon.{Once, common-once, entity-at, names_of_parts}
-use Rattle.called_runs.proofs.StandingDeclared.{commons-same}
+use Rattle.unit_laws.proofs.CommonOnce.{commons-same}
 
 -- ---- units that can be laid out
 

@@ -13,13 +13,13 @@ use Rattle.f77_tree.specs.Loops.{InRange}
 use Rattle.f77_tree.specs.Run.{State, step}
 use Rattle.f77_tree.specs.Touched.{SetsStep}
 use Rattle.layout_rules.specs.Executables.{beyond, first_of, own_kinds}
-use Rattle.f77_subs.specs.declared.entity.Entity.{Entity}
-use Rattle.f77_subs.specs.Calls.{CallState, Calls, act, act_of_pass}
-use Rattle.f77_subs.specs.Contexts.{IsReached, called}
-use Rattle.f77_subs.specs.Copies.{Context, bare, number_at}
-use Rattle.f77_subs.specs.Expansion.{whole_list}
-use Rattle.f77_subs.specs.Layouts.{own_program}
-use Rattle.f77_subs.specs.Units.{Call, call_by, call_in, guard_of, inner, stand_in, standing_in, unit_at, unit_of}
+use Rattle.program_units.specs.declared.entity.Entity.{Entity}
+use Rattle.program_units.specs.Calls.{CallState, Calls, act, act_of_pass}
+use Rattle.program_units.specs.Contexts.{IsReached, called}
+use Rattle.program_units.specs.Copies.{Context, bare, number_at}
+use Rattle.program_units.specs.Expansion.{whole_list}
+use Rattle.program_units.specs.Layouts.{own_program}
+use Rattle.program_units.specs.Units.{Call, call_by, call_in, guard_of, inner, stand_in, standing_in, unit_at, unit_of}
 use Rattle.called_runs.specs.CopiedPositions.{Stands, standing}
 use Rattle.called_runs.specs.FramesInStep.{AreInStep, AreLive, CountAlike, behind, frame_in, innermost, inside, inside_at, position_of}
 use Rattle.called_runs.proofs.AlikeRuns.{call_step}

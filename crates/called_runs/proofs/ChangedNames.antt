@@ -13,13 +13,13 @@ use Rattle.layout_rules.specs.Layout.{names_of}
 use Rattle.layout_rules.specs.Types.{is_array_in, is_intrinsic}
 use Rattle.copied_values.proofs.SameTrees.{same-array}
 use Rattle.copied_values.specs.ChangedTables.{AreChangedTables}
-use Rattle.f77_subs.proofs.OwnNames.{own-name}
-use Rattle.f77_subs.specs.Copies.{change_in}
-use Rattle.f77_subs.specs.declared.entity.Entity.{Entity}
-use Rattle.f77_subs.specs.Entities.{stands_for}
-use Rattle.f77_subs.specs.Expansion.{whole_list}
-use Rattle.f77_subs.specs.Names.{name_for, same_entity, y_entities, y_or}
-use Rattle.f77_subs.specs.Units.{standing_in, unit_at}
+use Rattle.unit_laws.proofs.OwnNames.{own-name}
+use Rattle.program_units.specs.Copies.{change_in}
+use Rattle.program_units.specs.declared.entity.Entity.{Entity}
+use Rattle.program_units.specs.Entities.{stands_for}
+use Rattle.program_units.specs.Expansion.{whole_list}
+use Rattle.program_units.specs.Names.{name_for, same_entity, y_entities, y_or}
+use Rattle.program_units.specs.Units.{standing_in, unit_at}
 use Rattle.called_runs.proofs.StandingNames.{arrays-same}
 
 -- no function has the name of an entity

@@ -9,19 +9,20 @@ use Rattle.std.proofs.lemmas.Map.Keys.{any_passes_from_place}
 use Rattle.std.proofs.lemmas.Option.{slice_get-map}
 use Rattle.f77_tree.specs.declared.statements.Labelled.{Labelled}
 use Rattle.layout_rules.specs.Declarations.{is_array}
-use Rattle.f77_subs.proofs.AcceptedTables.{alike-lengths, not-not}
-use Rattle.f77_subs.proofs.CalledNames.{call-names}
-use Rattle.f77_subs.proofs.CallReach.{chain-from, reach-at, reach-by, reach-few}
-use Rattle.f77_subs.proofs.ReachedUnits.{first-inside, none-past}
-use Rattle.f77_subs.proofs.StoredNames.{told-all}
-use Rattle.f77_subs.specs.Contexts.{IsReached, called, main}
-use Rattle.f77_subs.specs.Copies.{Context}
-use Rattle.f77_subs.specs.declared.entity.Entity.{Entity}
-use Rattle.f77_subs.specs.Entities.{entity_at, entity_of, stands_for}
-use Rattle.f77_subs.specs.Names.{appearing_here, names_of_unit}
-use Rattle.f77_subs.specs.Refusals.{are_alike, calls_wrongly}
-use Rattle.f77_subs.specs.Storage.{IsOfRun}
-use Rattle.f77_subs.specs.Units.{Call, call_in, calls, calls_unit, dummies_of, reaches, runs, unit_at, unit_of}
+use Rattle.unit_laws.proofs.AcceptedTables.{alike-lengths, not-not}
+use Rattle.unit_laws.proofs.CalledNames.{call-names}
+use Rattle.program_units.proofs.CallReach.{chain-from, reach-at, reach-by, reach-few}
+use Rattle.unit_laws.proofs.ReachedUnits.{none-past}
+use Rattle.program_units.proofs.Counting.{first-inside}
+use Rattle.program_units.proofs.StoredNames.{told-all}
+use Rattle.program_units.specs.Contexts.{IsReached, called, main}
+use Rattle.program_units.specs.Copies.{Context}
+use Rattle.program_units.specs.declared.entity.Entity.{Entity}
+use Rattle.program_units.specs.Entities.{entity_at, entity_of, stands_for}
+use Rattle.program_units.specs.Names.{appearing_here, names_of_unit}
+use Rattle.program_units.specs.Refusals.{are_alike, calls_wrongly}
+use Rattle.program_units.specs.Storage.{IsOfRun}
+use Rattle.program_units.specs.Units.{Call, call_in, calls, calls_unit, dummies_of, reaches, runs, unit_at, unit_of}
 use Rattle.list_laws.proofs.Members.{Member-flat_map, Member-from_Contains, list_any_member}
 use Rattle.called_runs.proofs.ListedBlocks.{contains-at}
 use Rattle.called_runs.proofs.StoredNames.{own-run}

@@ -6,8 +6,8 @@ use Rattle.f77_tree.specs.declared.statements.Stmt.TheVariants.{Program, Implici
 use Rattle.layout_rules.specs.Executables.{is_do, is_do_to, own_executables}
 use Rattle.layout_rules.specs.Jumps.{is_block_if, is_end_if}
 use Rattle.layout_rules.specs.Labels.{is_arm, is_executable}
-use Rattle.f77_subs.specs.Copies.{Change, changed, changed_stmt}
-use Rattle.f77_subs.specs.Units.{stand_in, stand_in_alone}
+use Rattle.program_units.specs.Copies.{Change, changed, changed_stmt}
+use Rattle.program_units.specs.Units.{stand_in, stand_in_alone}
 
 -- the tests that tell how control goes on
 pub record SameRole (s t : Stmt) : Type 0 where

@@ -5,12 +5,12 @@ use Rattle.std.proofs.lemmas.Bool.{cases_order, eqb-true}
 use Rattle.f77_tree.specs.declared.statements.Labelled.{Labelled}
 use Rattle.layout_rules.specs.Executables.{is_do_to, loops_to}
 use Rattle.layout_rules.specs.Labels.{statement_of}
-use Rattle.f77_subs.specs.Units.{Call, call_in, unit_at, unit_of}
-use Rattle.f77_subs.specs.Widths.{is_kept, body_labels}
-use Rattle.f77_subs.specs.Copies.{Context, changes, end_by, number_at}
-use Rattle.f77_subs.specs.CopiedLoops.{IsEndOf, last_number, loops_from}
-use Rattle.f77_subs.specs.ListedCopies.{piece_at}
-use Rattle.f77_subs.proofs.PieceLabels.{number-above, number-apart, number-within}
+use Rattle.program_units.specs.Units.{Call, call_in, unit_at, unit_of}
+use Rattle.program_units.specs.Widths.{is_kept, body_labels}
+use Rattle.program_units.specs.Copies.{Context, changes, end_by, number_at}
+use Rattle.program_units.specs.CopiedLoops.{IsEndOf, last_number, loops_from}
+use Rattle.program_units.specs.ListedCopies.{piece_at}
+use Rattle.unit_laws.proofs.PieceLabels.{number-above, number-apart, number-within}
 use Rattle.copied_control.proofs.CopiedLoops.{Ends, IsAway, ends-at, none-of-pieces, outside, piece-away}
 use Rattle.copied_control.proofs.LoopLists.{loops-are}
 use Rattle.copied_control.proofs.LoopsTo.{ended-loops}

@@ -17,7 +17,7 @@ use Rattle.f77_tree.specs.Touched.{SetsStep}
 use Rattle.layout_rules.specs.Appearances.{appearing, names_in}
 use Rattle.layout_rules.specs.Resolved.{resolved, resolved_step}
 use Rattle.layout_rules.specs.Types.{is_array_in, is_of_kind, is_target, is_well_kinded, is_kind, is_step, kind_named}
-use Rattle.f77_subs.specs.Copies.{Change}
+use Rattle.program_units.specs.Copies.{Change}
 use Rattle.copied_values.specs.SideBySide.{AreSideBySide, AreTied, GoAlike, HoldAlike, with_pair}
 use Rattle.copied_values.proofs.CopiedSteps.{assigns, increments, picks, prints, signs, starts, takes, tests}
 use Rattle.called_runs.specs.CopiedKinds.{IsCopyOf, assign_alike, end_alike, next_alike, pass_alike, pick_alike, print_alike, sign_alike, start_alike, take_alike, test_alike}

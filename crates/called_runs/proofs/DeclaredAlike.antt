@@ -1,11 +1,10 @@
 -- In copies names are declared as what they stand for.
-use Rattle.std.proofs.Common.{◌≡◌, ℕ, zero, suc, ◌+◌, Bool, true, false, not, cond, if◌then◌else◌, List, [], ◌∷◌, ◌++◌, map, filter, Option, Some, None, option_map, ⊎_elim, refl, sym, ap, subst, ◌∙◌, arith}
+use Rattle.std.proofs.Common.{◌≡◌, ℕ, zero, suc, ◌+◌, Bool, true, false, not, cond, List, [], ◌∷◌, map, filter, Option, Some, None, option_map, if◌then◌else◌, ⊎_elim, refl, sym, ap, subst, ◌∙◌, arith}
 use Rattle.std.specs.Prelude.{bytes_eq}
 use Rattle.std.specs.List.{list_any, position_or_len, slice_get}
 use Rattle.std.specs.Ordering.{int_eq}
 use Rattle.std.proofs.lemmas.Bool.{and_parts, cases_Bool}
 use Rattle.std.proofs.lemmas.Bool.Decides.{Decides-int_eq}
-use Rattle.std.proofs.lemmas.List.Sums.{sum_by-append, sum_by-cons}
 use Rattle.std.proofs.lemmas.Option.{slice_get-map}
 use Rattle.std.proofs.lemmas.Slice.Eq.{bytes_eq-Decides}
 use Rattle.f77_tree.specs.declared.declarations.CommonPart.{CommonPart}
@@ -13,22 +12,23 @@ use Rattle.f77_tree.specs.declared.declarations.Dim.{Dim}
 use Rattle.f77_tree.specs.declared.declarations.Kind.{Kind}
 use Rattle.f77_tree.specs.declared.statements.Labelled.{Labelled}
 use Rattle.layout_rules.specs.Declarations.{all_commons, dims_of, kind_of}
-use Rattle.layout_rules.specs.Faults.{answer_or, first_after, first_answer, first_line}
-use Rattle.f77_subs.specs.declared.sub_end.SubEnd.TheVariants.{BadBlock, BadCall}
-use Rattle.f77_subs.specs.Contexts.{IsReached, called, main}
-use Rattle.f77_subs.specs.Copies.{Context}
+use Rattle.layout_rules.specs.Faults.{answer_or, first_answer, first_line}
+use Rattle.program_units.specs.declared.sub_end.SubEnd.TheVariants.{BadBlock, BadCall}
+use Rattle.program_units.specs.Contexts.{IsReached, called, main}
+use Rattle.program_units.specs.Copies.{Context}
 use Rattle.called_runs.specs.DeclaredNames.{AreDeclaredAlike, IsDeclaredAs}
-use Rattle.f77_subs.specs.declared.entity.Entity.{Entity}
-use Rattle.f77_subs.specs.declared.entity.Entity.TheVariants.{InBlock}
-use Rattle.f77_subs.specs.Entities.{block_list, entity_at, entity_of, entity_or, found_in, stands_for}
-use Rattle.f77_subs.specs.Expansion.{declared_in}
-use Rattle.f77_subs.specs.Names.{has_block}
-use Rattle.f77_subs.specs.Refusals.{are_alike, are_same_dims, bad_block, calls_wrongly, end_at, first_unit, first_with, has_bad_call, has_wrong_dummy, is_alike, is_odd_part, is_same_dim, is_same_kind, unit_below, unit_refusal, unit_refusals}
-use Rattle.f77_subs.specs.Units.{Call, call_in, dummies_of, in_first, is_end, unit_at, unit_of, unit_or_none, units}
-use Rattle.f77_subs.proofs.AcceptedTables.{no-fault, not-not, or-parts}
-use Rattle.f77_subs.proofs.NoAnswer.{each-none, no-end, no-line, none-at}
+use Rattle.program_units.specs.declared.entity.Entity.{Entity}
+use Rattle.program_units.specs.declared.entity.Entity.TheVariants.{InBlock}
+use Rattle.program_units.specs.Entities.{block_list, entity_at, entity_of, entity_or, found_in, stands_for}
+use Rattle.program_units.specs.Expansion.{declared_in}
+use Rattle.program_units.specs.Names.{has_block}
+use Rattle.program_units.specs.Refusals.{are_alike, are_same_dims, bad_block, calls_wrongly, end_at, first_unit, first_with, has_bad_call, has_wrong_dummy, is_alike, is_mismatched_part, is_same_dim, is_same_kind, unit_below, unit_refusal, unit_refusals}
+use Rattle.program_units.specs.Units.{Call, call_in, dummies_of, unit_at, unit_of, unit_or_none, units}
+use Rattle.unit_laws.proofs.AcceptedTables.{not-not, or-parts}
+use Rattle.unit_laws.proofs.NoAnswer.{each-none, no-end, no-line, none-at}
+use Rattle.unit_laws.proofs.StoredOwn.{all-right}
 use Rattle.copied_values.proofs.ChangedValues.{kinds-same}
-use Rattle.f77_subs.proofs.MainNames.{Tells, found-at, in-first, later, named}
+use Rattle.unit_laws.proofs.MainNames.{Tells, found-at, in-first, later, named}
 
 -- ---- names that are alike
 
@@ -90,7 +90,7 @@ module _ (us : List (List Labelled)) where
     abbrev unit : List Labelled
     unit = unit_at us k
 
-    in-block : (part : CommonPart) → is_odd_part us unit part ≡ false → Tells (all_commons unit) x part.block → IsDeclaredAs us unit x (InBlock part.block (position_or_len (bytes_eq x) (block_list unit part.block)))
+    in-block : (part : CommonPart) → is_mismatched_part us unit part ≡ false → Tells (all_commons unit) x part.block → IsDeclaredAs us unit x (InBlock part.block (position_or_len (bytes_eq x) (block_list unit part.block)))
     in-block part even told =
         let place = position_or_len (bytes_eq x) (block_list unit part.block) in
         let first = first_with us part.block in
@@ -99,10 +99,10 @@ module _ (us : List (List Labelled)) where
         in
         subst (λ (d : List Labelled × List ℕ). AreDeclaredAlike unit d.0 x d.1) (sym (first-declares part.block place other.name other.there)) other.alike
 
-    by-parts : (parts : List CommonPart) → list_any (is_odd_part us unit) parts ≡ false → ((block : Option (List ℕ)) → Tells parts x block → Tells (all_commons unit) x block) → IsDeclaredAs us unit x (entity_or k x (first_answer (found_in unit x) parts))
+    by-parts : (parts : List CommonPart) → list_any (is_mismatched_part us unit) parts ≡ false → ((block : Option (List ℕ)) → Tells parts x block → Tells (all_commons unit) x block) → IsDeclaredAs us unit x (entity_or k x (first_answer (found_in unit x) parts))
     by-parts [] even whole = record { kinds = refl; dims = refl }
     by-parts (part ∷ parts) even whole =
-        let both = or-parts (is_odd_part us unit part) (list_any (is_odd_part us unit) parts) even in
+        let both = or-parts (is_mismatched_part us unit part) (list_any (is_mismatched_part us unit) parts) even in
         let place = position_or_len (bytes_eq x) (block_list unit part.block) in
         let told : Bool → Entity = λ b. entity_or k x (answer_or (if b then Some (InBlock part.block place) else None) (first_answer (found_in unit x) parts)) in
         ⊎_elim
@@ -110,56 +110,8 @@ module _ (us : List (List Labelled)) where
         (λ (is : list_any (named x) part.decls ≡ false). subst (IsDeclaredAs us unit x) (sym (ap told is)) (by-parts parts both.1 (λ block more. whole block (later x part parts block more))))
         (cases_Bool (list_any (named x) part.decls))
 
-    pub own-declared : list_any (is_odd_part us unit) (all_commons unit) ≡ false → IsDeclaredAs us unit x (entity_of us k x)
+    pub own-declared : list_any (is_mismatched_part us unit) (all_commons unit) ≡ false → IsDeclaredAs us unit x (entity_of us k x)
     own-declared even = by-parts (all_commons unit) even (λ block told. told)
-
--- ---- statements by their units
-
-below-push : (above : List Labelled) (s : Labelled) → unit_below (above ++ s ∷ []) ≡ unit_below above + cond (is_end s.stmt) 1 0
-below-push above s =
-    let one : Labelled → ℕ = λ a. cond (is_end a.stmt) 1 0 in
-    let split = sum_by-append one above (s ∷ []) in
-    let last = sum_by-cons one s [] in
-    omega (arith, split, last)
-
-module _ (bad : ℕ → Labelled → Bool) (fault : List Labelled → Labelled → Bool) (tells : (above : List Labelled) (s : Labelled) → fault above s ≡ false → bad (unit_below above) s ≡ false) where
-  -- no statement of these units has the fault, where so many units stand before them
-  abbrev AreRight : ℕ → List (List Labelled) → Type 0
-  AreRight n us = (k place : ℕ) (s : Labelled) → slice_get (unit_at us k) place ≡ Some s → bad (n + k) s ≡ false
-
-  one-more : (n : ℕ) (s : Labelled) (us : List (List Labelled)) → bad n s ≡ false → AreRight (n + 1) us → AreRight n ((s ∷ []) ∷ us)
-  one-more n s us here more zero zero t there =
-      let e : Some s ≡ Some t = there in
-      let same : s ≡ t = cc in
-      let sum : n ≡ n + 0 = omega arith in
-      subst (λ (m : ℕ). bad m t ≡ false) sum (subst (λ (a : Labelled). bad n a ≡ false) same here)
-  one-more n s us here more zero (suc place) t there = let e : None ≡ Some t = there in absurd cc
-  one-more n s us here more (suc k) place t there =
-      let sum : n + 1 + k ≡ n + suc k = omega arith in
-      subst (λ (m : ℕ). bad m t ≡ false) sum (more k place t there)
-
-  in-front : (n : ℕ) (s : Labelled) (us : List (List Labelled)) → bad n s ≡ false → AreRight n us → AreRight n (in_first s us)
-  in-front n s [] here more k place t there = one-more n s [] here (λ j p a is. let e : None ≡ Some a = is in absurd cc) k place t there
-  in-front n s (u ∷ us) here more zero zero t there =
-      let e : Some s ≡ Some t = there in
-      let same : s ≡ t = cc in
-      let sum : n ≡ n + 0 = omega arith in
-      subst (λ (m : ℕ). bad m t ≡ false) sum (subst (λ (a : Labelled). bad n a ≡ false) same here)
-  in-front n s (u ∷ us) here more zero (suc place) t there = more zero place t there
-  in-front n s (u ∷ us) here more (suc k) place t there = more (suc k) place t there
-
-  all-right : (above stmts : List Labelled) → first_after fault above stmts ≡ None → AreRight (unit_below above) (units stmts)
-  all-right above [] none = λ k place t there. let e : None ≡ Some t = there in absurd cc
-  all-right above (s ∷ rest) none =
-      let parts = no-fault fault above s rest none in
-      let here = tells above s parts.0 in
-      by (is_end s.stmt) here (subst (λ (n : ℕ). AreRight n (units rest)) (below-push above s) (all-right (above ++ s ∷ []) rest parts.1))
-    where
-      by : (b : Bool) → bad (unit_below above) s ≡ false → AreRight (unit_below above + cond b 1 0) (units rest) → AreRight (unit_below above) (if b then (s ∷ []) ∷ units rest else in_first s (units rest))
-      by true here more = one-more (unit_below above) s (units rest) here more
-      by false here more =
-          let sum : unit_below above + 0 ≡ unit_below above = omega arith in
-          in-front (unit_below above) s (units rest) here (subst (λ (n : ℕ). AreRight n (units rest)) sum more)
 
 -- ---- an accepted text
 
@@ -182,15 +134,15 @@ module _ (stmts : List Labelled) (checked : Bool) (accepted : unit_refusal stmts
       subst (λ (n : ℕ). has_wrong_dummy (unit_at all n) s.stmt ≡ false) sum
       (all-right (λ n t. has_wrong_dummy (unit_at all n) t.stmt) (has_bad_call all) (λ above t right. (or-parts (calls_wrongly all (unit_below above) (call_in t.stmt)) (has_wrong_dummy (unit_at all (unit_below above)) t.stmt) right).1) [] stmts calls-none k place s there)
 
-  pub blocks-even : (k : ℕ) → list_any (is_odd_part all (unit_at all k)) (all_commons (unit_at all k)) ≡ false
+  pub blocks-even : (k : ℕ) → list_any (is_mismatched_part all (unit_at all k)) (all_commons (unit_at all k)) ≡ false
   blocks-even k = by (slice_get all k) refl
     where
       none : first_answer (bad_block all) all ≡ None
       none = no-end BadBlock (first_answer (bad_block all) all) (none-at (unit_refusals stmts all checked) 5 (end_at BadBlock (first_answer (bad_block all) all)) accepted refl)
 
-      by : (o : Option (List Labelled)) → slice_get all k ≡ o → list_any (is_odd_part all (unit_or_none o)) (all_commons (unit_or_none o)) ≡ false
+      by : (o : Option (List Labelled)) → slice_get all k ≡ o → list_any (is_mismatched_part all (unit_or_none o)) (all_commons (unit_or_none o)) ≡ false
       by None is = refl
-      by (Some u) is = no-line (list_any (is_odd_part all u) (all_commons u)) u (each-none (bad_block all) all none k u is)
+      by (Some u) is = no-line (list_any (is_mismatched_part all u) (all_commons u)) u (each-none (bad_block all) all none k u is)
 
   position-passes : (p : List ℕ → Bool) (xs : List (List ℕ)) (x : List ℕ) → slice_get xs (position_or_len p xs) ≡ Some x → p x ≡ true
   position-passes p [] x there = let e : None ≡ Some x = there in absurd cc

@@ -13,17 +13,17 @@ use Rattle.f77_tree.specs.Places.{same_block}
 use Rattle.layout_rules.specs.Declarations.{all_commons, dims_of, kind_of}
 use Rattle.layout_rules.specs.Executables.{kind_or_integer}
 use Rattle.layout_rules.specs.Faults.{answer_or, first_answer}
-use Rattle.f77_subs.proofs.AcceptedTables.{not-not, or-parts}
-use Rattle.f77_subs.proofs.MainNames.{Tells, found-at, in-first, later, named}
-use Rattle.f77_subs.proofs.OwnNames.{blocks-same}
-use Rattle.f77_subs.specs.declared.entity.Entity.{Entity}
-use Rattle.f77_subs.specs.declared.entity.Entity.TheVariants.{InBlock, Local}
-use Rattle.f77_subs.specs.Entities.{block_list, entity_of, entity_or, found_in}
-use Rattle.f77_subs.specs.Expansion.{declared_in, is_running, units_but_main, whole_list}
-use Rattle.f77_subs.specs.Names.{has_block, is_main, main_name, name_for, names_of_unit, own_names, same_entity, y_entities, y_name}
-use Rattle.f77_subs.specs.Refusals.{are_alike, first_unit, first_with, is_odd_part}
-use Rattle.f77_subs.specs.Storage.{IsOfRun}
-use Rattle.f77_subs.specs.Units.{dummies_of, runs, unit_at, unit_or_none}
+use Rattle.unit_laws.proofs.AcceptedTables.{not-not, or-parts}
+use Rattle.unit_laws.proofs.MainNames.{Tells, found-at, in-first, later, named}
+use Rattle.unit_laws.proofs.OwnNames.{blocks-same}
+use Rattle.program_units.specs.declared.entity.Entity.{Entity}
+use Rattle.program_units.specs.declared.entity.Entity.TheVariants.{InBlock, Local}
+use Rattle.program_units.specs.Entities.{block_list, entity_of, entity_or, found_in}
+use Rattle.program_units.specs.Expansion.{declared_in, is_running, units_but_main, whole_list}
+use Rattle.program_units.specs.Names.{has_block, is_main, main_name, name_for, names_of_unit, own_names, same_entity, y_entities, y_name}
+use Rattle.program_units.specs.Refusals.{are_alike, first_unit, first_with, is_mismatched_part}
+use Rattle.program_units.specs.Storage.{IsOfRun}
+use Rattle.program_units.specs.Units.{dummies_of, runs, unit_at, unit_or_none}
 use Rattle.called_runs.specs.DeclaredNames.{IsDeclaredAs}
 use Rattle.called_runs.proofs.DeclaredAlike.{beside, own-declared}
 use Rattle.called_runs.proofs.NamesOfUnits.{any-weaker, block-names, in-units}
@@ -62,13 +62,13 @@ module _ (us : List (List Labelled)) where
       by [] is = let e : false ≡ true = is in absurd cc
       by (v ∷ vs) is = ap (λ (b : Bool). first_unit (if b then v ∷ filter (λ u. has_block u block) vs else filter (λ u. has_block u block) vs)) is
 
-  pub even-lists : (u : List Labelled) (block : Option (List ℕ)) (parts : List CommonPart) → list_any (is_odd_part us u) parts ≡ false → list_any (λ part. same_block part.block block) parts ≡ true → are_alike u (first_with us block) (block_list u block) (block_list (first_with us block) block) ≡ true
+  pub even-lists : (u : List Labelled) (block : Option (List ℕ)) (parts : List CommonPart) → list_any (is_mismatched_part us u) parts ≡ false → list_any (λ part. same_block part.block block) parts ≡ true → are_alike u (first_with us block) (block_list u block) (block_list (first_with us block) block) ≡ true
   even-lists u block [] even has = let e : false ≡ true = has in absurd cc
   even-lists u block (part ∷ parts) even has =
-      let both = or-parts (is_odd_part us u part) (list_any (is_odd_part us u) parts) even in
+      let both = or-parts (is_mismatched_part us u part) (list_any (is_mismatched_part us u) parts) even in
       by (same_block part.block block) refl has both.0 (even-lists u block parts both.1)
     where
-      by : (b : Bool) → same_block part.block block ≡ b → (b || list_any (λ p. same_block p.block block) parts) ≡ true → is_odd_part us u part ≡ false → (list_any (λ p. same_block p.block block) parts ≡ true → are_alike u (first_with us block) (block_list u block) (block_list (first_with us block) block) ≡ true)
+      by : (b : Bool) → same_block part.block block ≡ b → (b || list_any (λ p. same_block p.block block) parts) ≡ true → is_mismatched_part us u part ≡ false → (list_any (λ p. same_block p.block block) parts ≡ true → are_alike u (first_with us block) (block_list u block) (block_list (first_with us block) block) ≡ true)
           → are_alike u (first_with us block) (block_list u block) (block_list (first_with us block) block) ≡ true
       by true is here mine more =
           let alike : are_alike u (first_with us part.block) (block_list u part.block) (block_list (first_with us part.block) part.block) ≡ true = not-not (are_alike u (first_with us part.block) (block_list u part.block) (block_list (first_with us part.block) part.block)) mine in
@@ -84,7 +84,7 @@ module _ (us : List (List Labelled)) where
 
   module _ (kept : (x : List ℕ) → name_for us (entity_of us 0 x) ≡ x)
       (once : (k : ℕ) (block : Option (List ℕ)) (i : ℕ) (x : List ℕ) → slice_get (block_list (unit_at us k) block) i ≡ Some x → entity_of us k x ≡ InBlock block i)
-      (even : (k : ℕ) → list_any (is_odd_part us (unit_at us k)) (all_commons (unit_at us k)) ≡ false) where
+      (even : (k : ℕ) → list_any (is_mismatched_part us (unit_at us k)) (all_commons (unit_at us k)) ≡ false) where
     -- a name of a block has the same place in the main program
     in-main : (k : ℕ) (block : Option (List ℕ)) (i : ℕ) (x : List ℕ) → has_block (unit_at us 0) block ≡ true → has_block (unit_at us k) block ≡ true → slice_get (block_list (unit_at us k) block) i ≡ Some x → entity_of us 0 (name_for us (InBlock block i)) ≡ InBlock block i
     in-main k block i x has there stands =

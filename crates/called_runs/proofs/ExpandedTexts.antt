@@ -4,11 +4,11 @@ use Rattle.f77_tree.specs.declared.programs.Program.{Program}
 use Rattle.f77_tree.specs.declared.statements.Labelled.{Labelled}
 use Rattle.layout_rules.specs.Layout.{layout}
 use Rattle.layout_rules.specs.Source.{IsSource}
-use Rattle.f77_subs.specs.declared.sub_end.SubEnd.{SubEnd}
-use Rattle.f77_subs.specs.Expansion.{whole_list}
-use Rattle.f77_subs.specs.Refusals.{expansion, list_unless, unit_refusal}
-use Rattle.f77_subs.specs.Texts.{IsText}
-use Rattle.f77_subs.specs.Units.{units}
+use Rattle.program_units.specs.declared.sub_end.SubEnd.{SubEnd}
+use Rattle.program_units.specs.Expansion.{whole_list}
+use Rattle.program_units.specs.Refusals.{expansion, list_unless, unit_refusal}
+use Rattle.program_units.specs.Texts.{IsText}
+use Rattle.program_units.specs.Units.{units}
 use Rattle.called_runs.specs.Expanded.{IsExpanded}
 
 none-refused : (o : Option SubEnd) (made list : List Labelled) → list_unless o made ≡ Ok list → (o ≡ None) × (made ≡ list)

@@ -7,9 +7,9 @@ use Rattle.f77_tree.specs.Run.{Running, State, step}
 use Rattle.f77_tree.specs.Steps.{IsMemoryOf}
 use Rattle.f77_tree.specs.Value.{word_at}
 use Rattle.f77_tree.proofs.RunLaws.{step-running}
-use Rattle.f77_subs.specs.Calls.{CallState, Frame}
-use Rattle.f77_subs.specs.Copies.{Context}
-use Rattle.f77_subs.specs.Expansion.{whole_list}
+use Rattle.program_units.specs.Calls.{CallState, Frame}
+use Rattle.program_units.specs.Copies.{Context}
+use Rattle.program_units.specs.Expansion.{whole_list}
 use Rattle.called_runs.specs.CopiedPositions.{Stands}
 use Rattle.called_runs.specs.FramesInStep.{AreInStep, CountAlike, Wait, frame_in}
 

@@ -14,12 +14,12 @@ use Rattle.f77_tree.specs.InitialWords.{item_words, part_words, words_at, words_
 use Rattle.f77_tree.specs.Value.{dims_of as dims_at, place_of, size_of}
 use Rattle.layout_rules.specs.Declarations.{dims_of}
 use Rattle.layout_rules.specs.Types.{dims_named}
-use Rattle.f77_subs.specs.declared.entity.Entity.{Entity}
-use Rattle.f77_subs.specs.Entities.{entity_of}
-use Rattle.f77_subs.specs.Expansion.{declared_in, init_for, member_for, members_for, whole_list}
-use Rattle.f77_subs.specs.Names.{name_for}
-use Rattle.f77_subs.specs.Storage.{IsOfRun, placed, size_in}
-use Rattle.f77_subs.specs.Units.{unit_at}
+use Rattle.program_units.specs.declared.entity.Entity.{Entity}
+use Rattle.program_units.specs.Entities.{entity_of}
+use Rattle.program_units.specs.Expansion.{declared_in, init_for, member_for, members_for, whole_list}
+use Rattle.program_units.specs.Names.{name_for}
+use Rattle.program_units.specs.Storage.{IsOfRun, placed, size_in}
+use Rattle.program_units.specs.Units.{unit_at}
 use Rattle.called_runs.specs.PairedWords.{IsPaired, listed_spot}
 use Rattle.called_runs.proofs.PairedPlacings.{frame-place, frame-size}
 use Rattle.called_runs.proofs.ZippedWords.{AreZipped, zipped-append, zipped-from}

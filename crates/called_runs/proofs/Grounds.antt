@@ -8,13 +8,13 @@ use Rattle.layout_rules.specs.Faults.{first_line}
 use Rattle.layout_rules.specs.Jumps.{end_after, is_block_if, is_end_if}
 use Rattle.layout_rules.specs.Labels.{is_arm, is_labelled_twice, statement_of}
 use Rattle.layout_rules.specs.Source.{IsSource}
-use Rattle.f77_subs.specs.Units.{is_end, standing_in, unit_at}
-use Rattle.f77_subs.specs.Widths.{labels_written}
-use Rattle.f77_subs.specs.Copies.{Context}
-use Rattle.f77_subs.specs.Contexts.{IsReached}
-use Rattle.f77_subs.specs.CopiedLoops.{HasItsLoops, HaveEnds}
-use Rattle.f77_subs.specs.ListedCopies.{StandsIn}
-use Rattle.f77_subs.specs.OpenBlocks.{AreClosedUnits, IsEnded}
+use Rattle.program_units.specs.Units.{is_end, standing_in, unit_at}
+use Rattle.program_units.specs.Widths.{labels_written}
+use Rattle.program_units.specs.Copies.{Context}
+use Rattle.program_units.specs.Contexts.{IsReached}
+use Rattle.program_units.specs.CopiedLoops.{HasItsLoops, HaveEnds}
+use Rattle.program_units.specs.ListedCopies.{StandsIn}
+use Rattle.program_units.specs.OpenBlocks.{AreClosedUnits, IsEnded}
 use Rattle.called_runs.proofs.ListedExecutables.{LabelsLead}
 
 -- the statement at which an arm or a block of IF ends

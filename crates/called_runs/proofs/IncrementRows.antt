@@ -13,14 +13,14 @@ use Rattle.f77_tree.specs.Run.{State}
 use Rattle.layout_rules.specs.Executables.{exit_after, first_of, increments, is_do_to, loop_number, loops_to, own_executables, variable_of}
 use Rattle.layout_rules.specs.Labels.{is_executable}
 use Rattle.control_structure.proofs.ExecutableLemmas.{length-increments}
-use Rattle.f77_subs.specs.declared.entity.Entity.{Entity}
-use Rattle.f77_subs.specs.Calls.{CallState, Does, act}
-use Rattle.f77_subs.specs.Contexts.{IsReached}
-use Rattle.f77_subs.specs.Copies.{Context, changes}
-use Rattle.f77_subs.specs.Expansion.{whole_list}
-use Rattle.f77_subs.specs.Layouts.{own_program}
-use Rattle.f77_subs.specs.Units.{is_end, standing_in, unit_at}
-use Rattle.f77_subs.specs.Widths.{is_kept}
+use Rattle.program_units.specs.declared.entity.Entity.{Entity}
+use Rattle.program_units.specs.Calls.{CallState, Does, act}
+use Rattle.program_units.specs.Contexts.{IsReached}
+use Rattle.program_units.specs.Copies.{Context, changes}
+use Rattle.program_units.specs.Expansion.{whole_list}
+use Rattle.program_units.specs.Layouts.{own_program}
+use Rattle.program_units.specs.Units.{is_end, standing_in, unit_at}
+use Rattle.program_units.specs.Widths.{is_kept}
 use Rattle.called_runs.specs.CopiedPositions.{Stands, first_increment, last_place, standing}
 use Rattle.called_runs.proofs.ControlRoles.{stand-role}
 use Rattle.called_runs.proofs.CopiedOutcomes.{IsTiedStatement, IsTiedTest}

@@ -4,7 +4,7 @@ use Rattle.std.proofs.lemmas.Bool.{cases_eq, cases_lt}
 use Rattle.f77_tree.specs.Prefixes.{IsPrefix}
 use Rattle.f77_tree.specs.Run.{Mark, Running}
 use Rattle.f77_tree.proofs.RunLaws.{grows_not, grows_on}
-use Rattle.f77_subs.specs.Calls.{HasMark, ReachesText}
+use Rattle.program_units.specs.Calls.{HasMark, ReachesText}
 
 -- ---- one run, by its marks and its output after each number of steps
 

@@ -9,14 +9,14 @@ use Rattle.f77_tree.specs.declared.programs.NameInfo.{NameInfo}
 use Rattle.f77_tree.specs.declared.statements.Labelled.{Labelled}
 use Rattle.f77_tree.specs.Declarations.{IsCommonPart, IsGroup, index_of}
 use Rattle.layout_rules.specs.Declarations.{all_commons, all_groups}
-use Rattle.f77_subs.proofs.MainNames.{names_of_block}
-use Rattle.f77_subs.specs.declared.entity.Entity.{Entity}
-use Rattle.f77_subs.specs.declared.entity.Entity.TheVariants.{InBlock}
-use Rattle.f77_subs.specs.Entities.{block_list, entity_of}
-use Rattle.f77_subs.specs.Expansion.{member_for, members_for, whole_list}
-use Rattle.f77_subs.specs.Names.{name_for}
-use Rattle.f77_subs.specs.Storage.{Declares, Distance, neighbours, tied}
-use Rattle.f77_subs.specs.Units.{runs, unit_at}
+use Rattle.unit_laws.proofs.MainNames.{names_of_block}
+use Rattle.program_units.specs.declared.entity.Entity.{Entity}
+use Rattle.program_units.specs.declared.entity.Entity.TheVariants.{InBlock}
+use Rattle.program_units.specs.Entities.{block_list, entity_of}
+use Rattle.program_units.specs.Expansion.{member_for, members_for, whole_list}
+use Rattle.program_units.specs.Names.{name_for}
+use Rattle.program_units.specs.Storage.{Declares, Distance, neighbours, tied}
+use Rattle.program_units.specs.Units.{runs, unit_at}
 use Rattle.called_runs.proofs.EntityNames.{found-as}
 use Rattle.called_runs.proofs.LinkedEntities.{block-known, member-known}
 use Rattle.called_runs.proofs.ListedBlocks.{contains-at}

@@ -16,14 +16,14 @@ use Rattle.layout_rules.specs.Declarations.{is_array}
 use Rattle.layout_rules.specs.Labels.{is_executable}
 use Rattle.layout_rules.specs.Tables.{has_simple_inner, is_simple}
 use Rattle.layout_rules.specs.Types.{is_array_in, is_of_kind, is_well_kinded}
-use Rattle.f77_subs.proofs.Having.{got}
-use Rattle.f77_subs.proofs.Kept.{kept-by}
-use Rattle.f77_subs.specs.Entities.{stands_for}
-use Rattle.f77_subs.specs.Copies.{Context, around, bare, changed, changed_stmt, changes, copy, number_at, piece_by}
-use Rattle.f77_subs.specs.Expansion.{whole_list}
-use Rattle.f77_subs.specs.ListedCopies.{HasAt, piece_at}
-use Rattle.f77_subs.specs.Units.{Call, call_by, call_in, guard_of, is_end, stand_in, stand_in_alone, unit_at, unit_of}
-use Rattle.f77_subs.specs.Widths.{body_labels, is_kept}
+use Rattle.unit_laws.proofs.Having.{got}
+use Rattle.unit_laws.proofs.Kept.{kept-by}
+use Rattle.program_units.specs.Entities.{stands_for}
+use Rattle.program_units.specs.Copies.{Context, around, bare, changed, changed_stmt, changes, copy, number_at, piece_by}
+use Rattle.program_units.specs.Expansion.{whole_list}
+use Rattle.program_units.specs.ListedCopies.{HasAt, piece_at}
+use Rattle.program_units.specs.Units.{Call, call_by, call_in, guard_of, is_end, stand_in, stand_in_alone, unit_at, unit_of}
+use Rattle.program_units.specs.Widths.{body_labels, is_kept}
 use Rattle.called_runs.proofs.PlainNames.{plain-kinds, plain-names}
 use Rattle.called_runs.proofs.ShownStatements.{Does, of-kind, shown-stmt}
 

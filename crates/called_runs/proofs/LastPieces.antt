@@ -6,12 +6,12 @@ use Rattle.f77_tree.specs.declared.statements.Labelled.{Labelled}
 use Rattle.f77_tree.specs.declared.statements.Stmt.TheVariants.{Continue}
 use Rattle.layout_rules.specs.Executables.{loops_to, own_executables}
 use Rattle.layout_rules.specs.Labels.{statement_of}
-use Rattle.f77_subs.specs.Units.{Call, call_in, guard_of, unit_at, unit_of}
-use Rattle.f77_subs.specs.Entities.{stands_for}
-use Rattle.f77_subs.specs.Widths.{is_kept, body_labels}
-use Rattle.f77_subs.specs.Copies.{Context, bare, changes, copy, end_by, number_at}
-use Rattle.f77_subs.specs.ListedCopies.{HasAt, piece_at}
-use Rattle.f77_subs.proofs.Having.{alike, got, has_second}
+use Rattle.program_units.specs.Units.{Call, call_in, guard_of, unit_at, unit_of}
+use Rattle.program_units.specs.Entities.{stands_for}
+use Rattle.program_units.specs.Widths.{is_kept, body_labels}
+use Rattle.program_units.specs.Copies.{Context, bare, changes, copy, end_by, number_at}
+use Rattle.program_units.specs.ListedCopies.{HasAt, piece_at}
+use Rattle.unit_laws.proofs.Having.{alike, got, has_second}
 use Rattle.copied_control.proofs.LabelPlaces.{around-last, last-leads}
 use Rattle.copied_control.proofs.WhichPieces.{IsPlain, Which, left_out, calling, single, which, piece-around}
 use Rattle.called_runs.specs.CopiedPositions.{last_place, own_of_last, copy_of}

@@ -12,14 +12,14 @@ use Rattle.f77_tree.specs.Run.{Running, State, step, Ended as HasEnded}
 use Rattle.f77_tree.proofs.RunLaws.{step-running}
 use Rattle.layout_rules.specs.Executables.{beyond, first_of, labelled, own_executables, own_kinds}
 use Rattle.layout_rules.specs.Resolved.{resolved}
-use Rattle.f77_subs.specs.declared.entity.Entity.{Entity}
-use Rattle.f77_subs.specs.Calls.{CallState, Halts, Returns, act, act_of_pass}
-use Rattle.f77_subs.specs.Contexts.{IsReached}
-use Rattle.f77_subs.specs.Copies.{Change, Context, changed, changed_stmt, changes}
-use Rattle.f77_subs.specs.Expansion.{whole_list}
-use Rattle.f77_subs.specs.Layouts.{own_program}
-use Rattle.f77_subs.specs.Units.{guard_of, inner, is_end, is_return, stand_in, standing_in, unit_at}
-use Rattle.f77_subs.specs.Widths.{is_kept}
+use Rattle.program_units.specs.declared.entity.Entity.{Entity}
+use Rattle.program_units.specs.Calls.{CallState, Halts, Returns, act, act_of_pass}
+use Rattle.program_units.specs.Contexts.{IsReached}
+use Rattle.program_units.specs.Copies.{Change, Context, changed, changed_stmt, changes}
+use Rattle.program_units.specs.Expansion.{whole_list}
+use Rattle.program_units.specs.Layouts.{own_program}
+use Rattle.program_units.specs.Units.{guard_of, inner, is_end, is_return, stand_in, standing_in, unit_at}
+use Rattle.program_units.specs.Widths.{is_kept}
 use Rattle.copied_control.proofs.WhichPieces.{IsPlain}
 use Rattle.called_runs.specs.CopiedKinds.{test_alike}
 use Rattle.called_runs.specs.CopiedPositions.{Stands, at_copy, copy_of, leaves, standing}

@@ -15,15 +15,15 @@ use Rattle.f77_tree.specs.Declarations.{IsCommonName, IsCommonPart, IsGroup, IsM
 use Rattle.f77_tree.specs.Places.{Equation, IsWordOf as IsListedWord, Linked as AreTied, against as back_to, along as on_to, block_names, common_equations, equated, equations, group_equations, itself as at_once, neighbours, same_block}
 use Rattle.layout_rules.specs.Declarations.{all_commons, all_groups, dims_of, groups_of}
 use Rattle.layout_rules.specs.Types.{dims_named}
-use Rattle.f77_subs.proofs.MainNames.{names_of_block}
-use Rattle.f77_subs.specs.declared.entity.Entity.{Entity}
-use Rattle.f77_subs.specs.declared.entity.Entity.TheVariants.{InBlock}
-use Rattle.f77_subs.specs.Entities.{block_list, entity_of}
-use Rattle.f77_subs.specs.Expansion.{declared_in, member_for, members_for, whole_list}
-use Rattle.f77_subs.specs.Names.{name_for}
-use Rattle.f77_subs.specs.Refusals.{has_wrong_dummy}
-use Rattle.f77_subs.specs.Storage.{Declares, Distance, IsOfRun, IsWordOf, Linked, against, along, itself, neighbours as side_by_side, offset_in, size_in, tied}
-use Rattle.f77_subs.specs.Units.{runs, unit_at}
+use Rattle.unit_laws.proofs.MainNames.{names_of_block}
+use Rattle.program_units.specs.declared.entity.Entity.{Entity}
+use Rattle.program_units.specs.declared.entity.Entity.TheVariants.{InBlock}
+use Rattle.program_units.specs.Entities.{block_list, entity_of}
+use Rattle.program_units.specs.Expansion.{declared_in, member_for, members_for, whole_list}
+use Rattle.program_units.specs.Names.{name_for}
+use Rattle.program_units.specs.Refusals.{has_wrong_dummy}
+use Rattle.program_units.specs.Storage.{Declares, Distance, IsOfRun, IsWordOf, Linked, against, along, itself, neighbours as side_by_side, offset_in, size_in, tied}
+use Rattle.program_units.specs.Units.{runs, unit_at}
 use Rattle.called_runs.specs.PairedWords.{IsShown, listed_spot}
 use Rattle.called_runs.proofs.ListedBlocks.{IsPlaceOf, contains-at}
 use Rattle.called_runs.proofs.ListedParts.{IsPartOf}

@@ -15,17 +15,17 @@ use Rattle.f77_tree.specs.declared.declarations.CommonPart.{CommonPart}
 use Rattle.f77_tree.specs.declared.statements.Labelled.{Labelled}
 use Rattle.f77_tree.specs.Places.{same_block}
 use Rattle.layout_rules.specs.Declarations.{all_commons, parts_of}
-use Rattle.f77_subs.proofs.AcceptedTables.{alike-lengths, or-parts}
-use Rattle.f77_subs.proofs.MainNames.{names_of_block}
-use Rattle.f77_subs.proofs.ManyBlocks.{block-sym, has-told, told-blocks}
-use Rattle.f77_subs.proofs.OwnNames.{blocks-same}
-use Rattle.f77_subs.specs.Expansion.{block_size, blocks, common_decl, declared_first, put_in, units_but_main, whole_list, with_block}
-use Rattle.f77_subs.specs.Names.{has_block, name_for}
-use Rattle.f77_subs.specs.declared.entity.Entity.TheVariants.{InBlock}
-use Rattle.f77_subs.specs.Entities.{block_list}
-use Rattle.f77_subs.specs.PutIn.{is_put_in, is_run_block}
-use Rattle.f77_subs.specs.Refusals.{first_with, is_odd_part}
-use Rattle.f77_subs.specs.Units.{runs, unit_at, unit_or_none}
+use Rattle.unit_laws.proofs.AcceptedTables.{alike-lengths, or-parts}
+use Rattle.unit_laws.proofs.MainNames.{names_of_block}
+use Rattle.unit_laws.proofs.ManyBlocks.{block-sym, has-told, told-blocks}
+use Rattle.unit_laws.proofs.OwnNames.{blocks-same}
+use Rattle.program_units.specs.Expansion.{block_size, blocks, common_decl, declared_first, merged, units_but_main, whole_list, with_block}
+use Rattle.program_units.specs.Names.{has_block, name_for}
+use Rattle.program_units.specs.declared.entity.Entity.TheVariants.{InBlock}
+use Rattle.program_units.specs.Entities.{block_list}
+use Rattle.program_units.specs.Merged.{is_merged, is_run_block}
+use Rattle.program_units.specs.Refusals.{first_with, is_mismatched_part}
+use Rattle.program_units.specs.Units.{runs, unit_at, unit_or_none}
 use Rattle.called_runs.proofs.DeclaredAlike.{Beside, beside}
 use Rattle.called_runs.proofs.EntityNames.{even-lists, first-main, main-name}
 use Rattle.called_runs.proofs.NamesOfUnits.{any-weaker, in-units}
@@ -85,27 +85,27 @@ module _ (block : Option (List ℕ)) where
     decl-names b [] = refl
     decl-names b (i ∷ is) = ap (λ (xs : List (List ℕ)). name_for us (InBlock b i) ∷ xs) (decl-names b is)
 
-    -- the block stands once among those that are put in, if at all
-    pub of-put : (bs : List (Option (List ℕ))) → AreOnce bs → names_of_block block (map part_of (filter (is_put_in us) bs)) ≡ (if is_put_in us block && list_any (same_block block) bs then new_names block else [])
-    of-put [] once = sym (never (is_put_in us block))
+    -- the block stands once among those that are merged, if at all
+    pub of-put : (bs : List (Option (List ℕ))) → AreOnce bs → names_of_block block (map part_of (filter (is_merged us) bs)) ≡ (if is_merged us block && list_any (same_block block) bs then new_names block else [])
+    of-put [] once = sym (never (is_merged us block))
       where
         never : (b : Bool) → (if b && false then new_names block else []) ≡ []
         never true = refl
         never false = refl
-    of-put (c ∷ cs) once = by (same_block c block) refl (is_put_in us c) refl (of-put cs once.1)
+    of-put (c ∷ cs) once = by (same_block c block) refl (is_merged us c) refl (of-put cs once.1)
       where
-        by : (b : Bool) → same_block c block ≡ b → (p : Bool) → is_put_in us c ≡ p → names_of_block block (map part_of (filter (is_put_in us) cs)) ≡ (if is_put_in us block && list_any (same_block block) cs then new_names block else [])
-            → names_of_block block (map part_of (if p then c ∷ filter (is_put_in us) cs else filter (is_put_in us) cs)) ≡ (if is_put_in us block && (same_block block c || list_any (same_block block) cs) then new_names block else [])
+        by : (b : Bool) → same_block c block ≡ b → (p : Bool) → is_merged us c ≡ p → names_of_block block (map part_of (filter (is_merged us) cs)) ≡ (if is_merged us block && list_any (same_block block) cs then new_names block else [])
+            → names_of_block block (map part_of (if p then c ∷ filter (is_merged us) cs else filter (is_merged us) cs)) ≡ (if is_merged us block && (same_block block c || list_any (same_block block) cs) then new_names block else [])
         by true is true put more =
             let same : c ≡ block = blocks-same c block is in
             let none : list_any (same_block block) cs ≡ false = ap (λ (b : Option (List ℕ)). list_any (same_block b) cs) (sym same) ∙ once.0 in
-            let nothing : names_of_block block (map part_of (filter (is_put_in us) cs)) ≡ [] = more ∙ ap (λ (b : Bool). if is_put_in us block && b then new_names block else []) none ∙ never (is_put_in us block) in
-            ap (λ (b : Bool). names_of_parts (if b then part_of c ∷ filter (λ p. same_block p.block block) (map part_of (filter (is_put_in us) cs)) else filter (λ p. same_block p.block block) (map part_of (filter (is_put_in us) cs)))) is
+            let nothing : names_of_block block (map part_of (filter (is_merged us) cs)) ≡ [] = more ∙ ap (λ (b : Bool). if is_merged us block && b then new_names block else []) none ∙ never (is_merged us block) in
+            ap (λ (b : Bool). names_of_parts (if b then part_of c ∷ filter (λ p. same_block p.block block) (map part_of (filter (is_merged us) cs)) else filter (λ p. same_block p.block block) (map part_of (filter (is_merged us) cs)))) is
             ∙ ap (λ (xs : List (List ℕ)). map (λ decl. decl.name) (part_of c).decls ++ xs) nothing
             ∙ append-nil (map (λ decl. decl.name) (part_of c).decls)
             ∙ decl-names c (range_with_len 0 (block_size us c))
             ∙ ap new_names same
-            ∙ sym (ap (λ (b : Bool). if b && (same_block block c || list_any (same_block block) cs) then new_names block else []) (ap (is_put_in us) (sym same) ∙ put)
+            ∙ sym (ap (λ (b : Bool). if b && (same_block block c || list_any (same_block block) cs) then new_names block else []) (ap (is_merged us) (sym same) ∙ put)
             ∙ ap (λ (b : Bool). if b || list_any (same_block block) cs then new_names block else []) (block-sym block c ∙ is))
           where
             never : (b : Bool) → (if b && false then new_names block else []) ≡ []
@@ -113,15 +113,15 @@ module _ (block : Option (List ℕ)) where
             never false = refl
         by true is false put more =
             let same : c ≡ block = blocks-same c block is in
-            let not_put : is_put_in us block ≡ false = ap (is_put_in us) (sym same) ∙ put in
+            let not_put : is_merged us block ≡ false = ap (is_merged us) (sym same) ∙ put in
             more
             ∙ ap (λ (b : Bool). if b && list_any (same_block block) cs then new_names block else []) not_put
             ∙ sym (ap (λ (b : Bool). if b && (same_block block c || list_any (same_block block) cs) then new_names block else []) not_put)
         by false is true put more =
-            ap (λ (b : Bool). names_of_parts (if b then part_of c ∷ filter (λ p. same_block p.block block) (map part_of (filter (is_put_in us) cs)) else filter (λ p. same_block p.block block) (map part_of (filter (is_put_in us) cs)))) is
+            ap (λ (b : Bool). names_of_parts (if b then part_of c ∷ filter (λ p. same_block p.block block) (map part_of (filter (is_merged us) cs)) else filter (λ p. same_block p.block block) (map part_of (filter (is_merged us) cs)))) is
             ∙ more
-            ∙ ap (λ (b : Bool). if is_put_in us block && (b || list_any (same_block block) cs) then new_names block else []) (sym (block-sym block c ∙ is))
-        by false is false put more = more ∙ ap (λ (b : Bool). if is_put_in us block && (b || list_any (same_block block) cs) then new_names block else []) (sym (block-sym block c ∙ is))
+            ∙ ap (λ (b : Bool). if is_merged us block && (b || list_any (same_block block) cs) then new_names block else []) (sym (block-sym block c ∙ is))
+        by false is false put more = more ∙ ap (λ (b : Bool). if is_merged us block && (b || list_any (same_block block) cs) then new_names block else []) (sym (block-sym block c ∙ is))
 
 -- ---- the list
 
@@ -160,9 +160,9 @@ pub record IsPlaceOf (us : List (List Labelled)) (block : Option (List ℕ)) (i 
   pub there : slice_get (block_list (unit_at us unit) block) i ≡ Some name
 
 module _ (us : List (List Labelled)) (block : Option (List ℕ))
-    (listed : all_commons (whole_list us) ≡ all_commons (take (declared_first (unit_at us 0)) (unit_at us 0)) ++ (all_commons (put_in us) ++ all_commons (drop (declared_first (unit_at us 0)) (unit_at us 0))))
-    (added : all_commons (put_in us) ≡ map (λ b. record { block = b; decls = map (common_decl us b) (range_with_len 0 (block_size us b)) }) (filter (is_put_in us) (blocks us)))
-    (even : (k : ℕ) → list_any (is_odd_part us (unit_at us k)) (all_commons (unit_at us k)) ≡ false) where
+    (listed : all_commons (whole_list us) ≡ all_commons (take (declared_first (unit_at us 0)) (unit_at us 0)) ++ (all_commons (merged us) ++ all_commons (drop (declared_first (unit_at us 0)) (unit_at us 0))))
+    (added : all_commons (merged us) ≡ map (λ b. record { block = b; decls = map (common_decl us b) (range_with_len 0 (block_size us b)) }) (filter (is_merged us) (blocks us)))
+    (even : (k : ℕ) → list_any (is_mismatched_part us (unit_at us k)) (all_commons (unit_at us k)) ≡ false) where
   abbrev main : List Labelled
   main = unit_at us 0
 
@@ -178,16 +178,16 @@ module _ (us : List (List Labelled)) (block : Option (List ℕ))
   parts-split : front ++ back ≡ all_commons main
   parts-split = sym (flat_map-append (λ (s : Labelled). parts_of s.stmt) (take (declared_first main) main) (drop (declared_first main) main)) ∙ ap all_commons (take-append-drop (declared_first main) main)
 
-  names-split : names_of_block block (all_commons (whole_list us)) ≡ names_of_block block front ++ (names_of_block block (all_commons (put_in us)) ++ names_of_block block back)
-  names-split = ap (names_of_block block) listed ∙ of-both block front (all_commons (put_in us) ++ back) ∙ ap (λ (xs : List (List ℕ)). names_of_block block front ++ xs) (of-both block (all_commons (put_in us)) back)
+  names-split : names_of_block block (all_commons (whole_list us)) ≡ names_of_block block front ++ (names_of_block block (all_commons (merged us)) ++ names_of_block block back)
+  names-split = ap (names_of_block block) listed ∙ of-both block front (all_commons (merged us) ++ back) ∙ ap (λ (xs : List (List ℕ)). names_of_block block front ++ xs) (of-both block (all_commons (merged us)) back)
 
-  put-is : (b : Bool) → (is_put_in us block && list_any (same_block block) (blocks us)) ≡ b → names_of_block block (all_commons (put_in us)) ≡ (if b then new_names block us block else [])
+  put-is : (b : Bool) → (is_merged us block && list_any (same_block block) (blocks us)) ≡ b → names_of_block block (all_commons (merged us)) ≡ (if b then new_names block us block else [])
   put-is b is = ap (names_of_block block) added ∙ of-put block us (blocks us) (blocks-once us) ∙ ap (λ (c : Bool). if c then new_names block us block else []) is
 
   -- a block of the main program has its names there
   main-names : has_block main block ≡ true → names_of_block block (all_commons (whole_list us)) ≡ block_list main block
   main-names has =
-      let none : (is_put_in us block && list_any (same_block block) (blocks us)) ≡ false = ap (λ (b : Bool). (not b && is_run_block us block) && list_any (same_block block) (blocks us)) has in
+      let none : (is_merged us block && list_any (same_block block) (blocks us)) ≡ false = ap (λ (b : Bool). (not b && is_run_block us block) && list_any (same_block block) (blocks us)) has in
       names-split
       ∙ ap (λ (xs : List (List ℕ)). names_of_block block front ++ (xs ++ names_of_block block back)) (put-is false none)
       ∙ sym (of-both block front back)
@@ -196,12 +196,12 @@ module _ (us : List (List Labelled)) (block : Option (List ℕ))
   outside : has_block main block ≡ false → (list_any own front ≡ false) × (list_any own back ≡ false)
   outside has = or-parts (list_any own front) (list_any own back) (sym (list_any-append own front back) ∙ ap (list_any own) parts-split ∙ has)
 
-  other-names : has_block main block ≡ false → (b : Bool) → (is_put_in us block && list_any (same_block block) (blocks us)) ≡ b → names_of_block block (all_commons (whole_list us)) ≡ (if b then new_names block us block else [])
+  other-names : has_block main block ≡ false → (b : Bool) → (is_merged us block && list_any (same_block block) (blocks us)) ≡ b → names_of_block block (all_commons (whole_list us)) ≡ (if b then new_names block us block else [])
   other-names has b is =
       names-split
-      ∙ ap (λ (xs : List (List ℕ)). xs ++ (names_of_block block (all_commons (put_in us)) ++ names_of_block block back)) (of-none block front (outside has).0)
-      ∙ ap (λ (xs : List (List ℕ)). names_of_block block (all_commons (put_in us)) ++ xs) (of-none block back (outside has).1)
-      ∙ append-nil (names_of_block block (all_commons (put_in us)))
+      ∙ ap (λ (xs : List (List ℕ)). xs ++ (names_of_block block (all_commons (merged us)) ++ names_of_block block back)) (of-none block front (outside has).0)
+      ∙ ap (λ (xs : List (List ℕ)). names_of_block block (all_commons (merged us)) ++ xs) (of-none block back (outside has).1)
+      ∙ append-nil (names_of_block block (all_commons (merged us)))
       ∙ put-is b is
 
   -- a unit with a name of the block has the block
@@ -254,7 +254,7 @@ module _ (us : List (List Labelled)) (block : Option (List ℕ))
               absurd cc
           not-main (suc j) suc_is =
               let among : is_run_block us block ≡ true = any-weaker (λ (n : ℕ). n == k) (λ (n : ℕ). has_block (unit_at us n) block) (λ n same. ap (λ (m : ℕ). has_block (unit_at us m) block) (eqb-true n k same) ∙ has-of k i x there) (units_but_main us) (in-units us k (omega (arith, suc_is)) inside run) in
-              let put : (is_put_in us block && list_any (same_block block) (blocks us)) ≡ true = ap (λ (b : Bool). (not b && is_run_block us block) && list_any (same_block block) (blocks us)) is ∙ ap (λ (b : Bool). b && list_any (same_block block) (blocks us)) among ∙ noted k (has-of k i x there) in
+              let put : (is_merged us block && list_any (same_block block) (blocks us)) ≡ true = ap (λ (b : Bool). (not b && is_run_block us block) && list_any (same_block block) (blocks us)) is ∙ ap (λ (b : Bool). b && list_any (same_block block) (blocks us)) among ∙ noted k (has-of k i x there) in
               let less : i < block_size us block = let e = slice_get_within (block_list first block) i other.name other.there in let size = block-size-is us block in omega (arith, e, size) in
               ap (λ (xs : List (List ℕ)). slice_get xs i) (other-names is true put) ∙ range-get (λ n. name_for us (InBlock block n)) (block_size us block) i less
 
@@ -266,9 +266,9 @@ module _ (us : List (List Labelled)) (block : Option (List ℕ))
       by true is =
           let main_there : slice_get (block_list main block) i ≡ Some n = ap (λ (xs : List (List ℕ)). slice_get xs i) (sym (main-names is)) ∙ there in
           (record { unit = 0; name = n; runs_it = refl; there = main_there }, sym (main-name us block i n is main_there))
-      by false is = by_put (is_put_in us block && list_any (same_block block) (blocks us)) refl
+      by false is = by_put (is_merged us block && list_any (same_block block) (blocks us)) refl
         where
-          by_put : (b : Bool) → (is_put_in us block && list_any (same_block block) (blocks us)) ≡ b → IsPlaceOf us block i × (n ≡ name_for us (InBlock block i))
+          by_put : (b : Bool) → (is_merged us block && list_any (same_block block) (blocks us)) ≡ b → IsPlaceOf us block i × (n ≡ name_for us (InBlock block i))
           by_put false none =
               let e : None ≡ Some n = sym (ap (λ (xs : List (List ℕ)). slice_get xs i) (other-names is false none)) ∙ there in
               absurd cc
@@ -276,7 +276,7 @@ module _ (us : List (List Labelled)) (block : Option (List ℕ))
               let made : slice_get (new_names block us block) i ≡ Some n = sym (ap (λ (xs : List (List ℕ)). slice_get xs i) (other-names is true put)) ∙ there in
               let less : i < block_size us block = range-within (λ m. name_for us (InBlock block m)) (block_size us block) i n made in
               let same : Some n ≡ Some (name_for us (InBlock block i)) = sym made ∙ range-get (λ m. name_for us (InBlock block m)) (block_size us block) i less in
-              let parts = and_parts (is_put_in us block) (list_any (same_block block) (blocks us)) put in
+              let parts = and_parts (is_merged us block) (list_any (same_block block) (blocks us)) put in
               let run = (and_parts (not (has_block main block)) (is_run_block us block) parts.0).1 in
               let one = member_of_list_any (λ (k : ℕ). has_block (unit_at us k) block) (units_but_main us) run in
               let alike = alike-lengths (unit_at us one.one) (first_with us block) (block_list (unit_at us one.one) block) (block_list (first_with us block) block) (even-lists us (unit_at us one.one) block (all_commons (unit_at us one.one)) (even one.one) one.passes) in

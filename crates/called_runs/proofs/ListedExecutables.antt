@@ -10,9 +10,9 @@ use Rattle.f77_tree.specs.declared.statements.Stmt.TheVariants.{Program, Implici
 use Rattle.layout_rules.specs.Executables.{executables_with_ends, first_of, is_do_to, labelled, loops_to, own_executables}
 use Rattle.layout_rules.specs.Labels.{bears, is_arm, is_executable, used}
 use Rattle.f77_layout.specs.Leading.{IsLedTo}
-use Rattle.f77_subs.specs.CopiedLoops.{loop_if, loops_from}
-use Rattle.f77_subs.specs.ListedCopies.{HasAt}
-use Rattle.f77_subs.proofs.Having.{got, has_second, sum-next}
+use Rattle.program_units.specs.CopiedLoops.{loop_if, loops_from}
+use Rattle.program_units.specs.ListedCopies.{HasAt}
+use Rattle.unit_laws.proofs.Having.{got, has_second, sum-next}
 use Rattle.copied_control.proofs.LoopLists.{loops-are}
 
 pub first-next : (whole : List Labelled) (i : ℕ) (s : Labelled) → slice_get whole i ≡ Some s → first_of whole (i + 1) ≡ first_of whole i + (own_executables s.stmt + length (loops_to whole s.label))

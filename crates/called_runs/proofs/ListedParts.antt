@@ -11,10 +11,10 @@ use Rattle.f77_tree.specs.declared.declarations.InitPart.{InitPart}
 use Rattle.f77_tree.specs.declared.declarations.Member.{Member as Named}
 use Rattle.f77_tree.specs.declared.statements.Labelled.{Labelled}
 use Rattle.f77_tree.specs.declared.statements.Stmt.{Stmt}
-use Rattle.f77_subs.specs.Entities.{entity_of}
-use Rattle.f77_subs.specs.Expansion.{declared_first, init_for, member_for, members_for, put_in, units_but_main, whole_list}
-use Rattle.f77_subs.specs.Names.{name_for}
-use Rattle.f77_subs.specs.Units.{runs, unit_at, unit_or_none}
+use Rattle.program_units.specs.Entities.{entity_of}
+use Rattle.program_units.specs.Expansion.{declared_first, init_for, member_for, members_for, merged, units_but_main, whole_list}
+use Rattle.program_units.specs.Names.{name_for}
+use Rattle.program_units.specs.Units.{runs, unit_at, unit_or_none}
 use Rattle.called_runs.proofs.NamesOfUnits.{in-units}
 
 -- ---- names of the main program stay
@@ -44,8 +44,8 @@ module _ {X : Type 0} (us : List (List Labelled)) (of : Stmt → List X) (change
     pub is : changed unit part ≡ listed
 
   module _ (same : (x : X) → changed 0 x ≡ x)
-      (listed : all (whole_list us) ≡ all (take (declared_first (unit_at us 0)) (unit_at us 0)) ++ (all (put_in us) ++ all (drop (declared_first (unit_at us 0)) (unit_at us 0))))
-      (added : all (put_in us) ≡ flat_map (λ k. map (changed k) (all (unit_at us k))) (units_but_main us)) where
+      (listed : all (whole_list us) ≡ all (take (declared_first (unit_at us 0)) (unit_at us 0)) ++ (all (merged us) ++ all (drop (declared_first (unit_at us 0)) (unit_at us 0))))
+      (added : all (merged us) ≡ flat_map (λ k. map (changed k) (all (unit_at us k))) (units_but_main us)) where
     abbrev main : List Labelled
     main = unit_at us 0
 

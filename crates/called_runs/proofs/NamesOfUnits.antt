@@ -14,11 +14,11 @@ use Rattle.f77_tree.specs.declared.statements.Labelled.{Labelled}
 use Rattle.f77_tree.specs.declared.statements.Stmt.{Stmt}
 use Rattle.f77_tree.specs.declared.statements.Stmt.TheVariants.{Common}
 use Rattle.layout_rules.specs.Declarations.{all_commons, is_array, parts_of}
-use Rattle.f77_subs.proofs.StoredNames.{told-all}
-use Rattle.f77_subs.specs.Entities.{block_list}
-use Rattle.f77_subs.specs.Expansion.{units_but_main}
-use Rattle.f77_subs.specs.Names.{appearing_here, names_of_unit}
-use Rattle.f77_subs.specs.Units.{runs}
+use Rattle.program_units.proofs.StoredNames.{told-all}
+use Rattle.program_units.specs.Entities.{block_list}
+use Rattle.program_units.specs.Expansion.{units_but_main}
+use Rattle.program_units.specs.Names.{appearing_here, names_of_unit}
+use Rattle.program_units.specs.Units.{runs}
 use Rattle.called_runs.proofs.OnceInCommon.{among-at, block-lacks, names_of_parts}
 
 -- ---- lists

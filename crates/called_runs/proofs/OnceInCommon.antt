@@ -18,12 +18,12 @@ use Rattle.f77_tree.specs.Declarations.{CommonOnce, index_of, part_names}
 use Rattle.f77_tree.specs.Places.{same_block}
 use Rattle.layout_rules.specs.Declarations.{all_commons}
 use Rattle.layout_rules.specs.Faults.{answer_or, first_answer}
-use Rattle.f77_subs.proofs.AcceptedTables.{or-parts}
-use Rattle.f77_subs.proofs.MainNames.{found-at, named, names_of_block}
-use Rattle.f77_subs.proofs.OwnNames.{blocks-same}
-use Rattle.f77_subs.specs.declared.entity.Entity.{Entity}
-use Rattle.f77_subs.specs.declared.entity.Entity.TheVariants.{InBlock}
-use Rattle.f77_subs.specs.Entities.{block_list, found_in}
+use Rattle.unit_laws.proofs.AcceptedTables.{or-parts}
+use Rattle.unit_laws.proofs.MainNames.{found-at, named, names_of_block}
+use Rattle.unit_laws.proofs.OwnNames.{blocks-same}
+use Rattle.program_units.specs.declared.entity.Entity.{Entity}
+use Rattle.program_units.specs.declared.entity.Entity.TheVariants.{InBlock}
+use Rattle.program_units.specs.Entities.{block_list, found_in}
 
 -- ---- lists in which no name stands twice
 

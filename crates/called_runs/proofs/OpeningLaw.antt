@@ -23,15 +23,15 @@ use Rattle.layout_rules.specs.Source.{IsSource}
 use Rattle.layout_rules.specs.Types.{dims_named}
 use Rattle.copied_values.proofs.SameTrees.{same-dims}
 use Rattle.copied_values.specs.SideBySide.{IsPairing}
-use Rattle.f77_subs.specs.declared.entity.Entity.{Entity}
-use Rattle.f77_subs.specs.Entities.{entity_of}
-use Rattle.f77_subs.specs.Expansion.{declared_first, declared_in, init_for, member_for, put_in, units_but_main, whole_list}
-use Rattle.f77_subs.specs.Layouts.{own_program}
-use Rattle.f77_subs.specs.Names.{name_for}
-use Rattle.f77_subs.specs.Refusals.{unit_refusal}
-use Rattle.f77_subs.specs.Storage.{Declares, Distance, IsOfRun, IsStorage, placed, size_in}
-use Rattle.f77_subs.specs.Texts.{IsText}
-use Rattle.f77_subs.specs.Units.{runs, standing_in, unit_at, units}
+use Rattle.program_units.specs.declared.entity.Entity.{Entity}
+use Rattle.program_units.specs.Entities.{entity_of}
+use Rattle.program_units.specs.Expansion.{declared_first, declared_in, init_for, member_for, merged, units_but_main, whole_list}
+use Rattle.program_units.specs.Layouts.{own_program}
+use Rattle.program_units.specs.Names.{name_for}
+use Rattle.program_units.specs.Refusals.{unit_refusal}
+use Rattle.program_units.specs.Storage.{Declares, Distance, IsOfRun, IsStorage, placed, size_in}
+use Rattle.program_units.specs.Texts.{IsText}
+use Rattle.program_units.specs.Units.{runs, standing_in, unit_at, units}
 use Rattle.called_runs.specs.DeclaredNames.{AreDeclaredAlike}
 use Rattle.called_runs.specs.PairedWords.{IsPaired, IsPlacing, listed_spot}
 use Rattle.called_runs.specs.SpareWords.{HasStorage}
@@ -68,8 +68,8 @@ module _ (stmts : List Labelled) (checked : Bool) (text : IsText stmts) (accepte
       (stands : (u : List Labelled) (x : List ℕ) → AreDeclaredAlike (standing_in u) u x x)
       (kept : (e : Entity) → IsOfRun us e → dims_of list (name_for us e) ≡ dims_of (declared_in us e).0 (declared_in us e).1)
       (same : (x : List ℕ) → name_for us (entity_of us 0 x) ≡ x)
-      (inits : all_inits list ≡ all_inits (take (declared_first (unit_at us 0)) (unit_at us 0)) ++ (all_inits (put_in us) ++ all_inits (drop (declared_first (unit_at us 0)) (unit_at us 0))))
-      (added : all_inits (put_in us) ≡ flat_map (λ k. map (init_for us k) (all_inits (unit_at us k))) (units_but_main us)) where
+      (inits : all_inits list ≡ all_inits (take (declared_first (unit_at us 0)) (unit_at us 0)) ++ (all_inits (merged us) ++ all_inits (drop (declared_first (unit_at us 0)) (unit_at us 0))))
+      (added : all_inits (merged us) ≡ flat_map (λ k. map (init_for us k) (all_inits (unit_at us k))) (units_but_main us)) where
     pub table : (x : List ℕ) → dims_named p.names x ≡ dims_of list x
     table x = same-dims (names_of list) p.names (differ list checked) x ∙ dims_in_table list x
 

@@ -20,12 +20,12 @@ use Rattle.f77_tree.specs.WellFormed.{IsWellFormed}
 use Rattle.layout_rules.specs.Declarations.{all_inits, inits_of}
 use Rattle.layout_rules.specs.Layout.{program}
 use Rattle.copied_values.specs.SideBySide.{IsPairing}
-use Rattle.f77_subs.specs.declared.entity.Entity.{Entity}
-use Rattle.f77_subs.specs.Expansion.{init_for, whole_list}
-use Rattle.f77_subs.specs.Layouts.{own_program}
-use Rattle.f77_subs.specs.Names.{name_for}
-use Rattle.f77_subs.specs.Storage.{IsOfRun, IsStorage, placed, size_in}
-use Rattle.f77_subs.specs.Units.{runs, unit_at}
+use Rattle.program_units.specs.declared.entity.Entity.{Entity}
+use Rattle.program_units.specs.Expansion.{init_for, whole_list}
+use Rattle.program_units.specs.Layouts.{own_program}
+use Rattle.program_units.specs.Names.{name_for}
+use Rattle.program_units.specs.Storage.{IsOfRun, IsStorage, placed, size_in}
+use Rattle.program_units.specs.Units.{runs, unit_at}
 use Rattle.called_runs.specs.PairedWords.{IsPaired, listed_spot}
 use Rattle.called_runs.proofs.ListedParts.{IsPartOf}
 use Rattle.called_runs.proofs.ZippedWords.{AreZipped, back, found-none, found-there, there, zip-flat, zipped-length}

@@ -20,14 +20,14 @@ use Rattle.layout_rules.specs.Labels.{is_executable}
 use Rattle.layout_rules.specs.StatementTrees.{IsTree}
 use Rattle.layout_rules.specs.Tables.{has_simple_inner, is_simple}
 use Rattle.control_structure.proofs.ExecutableLemmas.{length-own}
-use Rattle.f77_subs.specs.declared.entity.Entity.{Entity}
-use Rattle.f77_subs.specs.Calls.{CallState, Does, Halts, Returns, act}
-use Rattle.f77_subs.specs.Contexts.{IsReached}
-use Rattle.f77_subs.specs.Copies.{Context, changed_stmt, changes}
-use Rattle.f77_subs.specs.Expansion.{whole_list}
-use Rattle.f77_subs.specs.Layouts.{own_program}
-use Rattle.f77_subs.specs.Units.{inner, is_end, stand_in, standing_in, unit_at}
-use Rattle.f77_subs.specs.Widths.{is_kept}
+use Rattle.program_units.specs.declared.entity.Entity.{Entity}
+use Rattle.program_units.specs.Calls.{CallState, Does, Halts, Returns, act}
+use Rattle.program_units.specs.Contexts.{IsReached}
+use Rattle.program_units.specs.Copies.{Context, changed_stmt, changes}
+use Rattle.program_units.specs.Expansion.{whole_list}
+use Rattle.program_units.specs.Layouts.{own_program}
+use Rattle.program_units.specs.Units.{inner, is_end, stand_in, standing_in, unit_at}
+use Rattle.program_units.specs.Widths.{is_kept}
 use Rattle.copied_control.proofs.WhichPieces.{IsPlain}
 use Rattle.called_runs.specs.CopiedPositions.{Stands, leaves, standing, copy_of}
 use Rattle.called_runs.proofs.ControlRoles.{stand-role}

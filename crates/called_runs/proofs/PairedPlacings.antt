@@ -9,12 +9,12 @@ use Rattle.f77_tree.specs.declared.statements.Labelled.{Labelled}
 use Rattle.f77_tree.specs.Declarations.{index_of}
 use Rattle.f77_tree.specs.Value.{ArePlaced, IsPlaced, dims_of, place_of, size_of}
 use Rattle.layout_rules.specs.Types.{dims_named}
-use Rattle.f77_subs.specs.Copies.{Change}
-use Rattle.f77_subs.specs.declared.entity.Entity.{Entity}
-use Rattle.f77_subs.specs.Entities.{stands_for}
+use Rattle.program_units.specs.Copies.{Change}
+use Rattle.program_units.specs.declared.entity.Entity.{Entity}
+use Rattle.program_units.specs.Entities.{stands_for}
 use Rattle.called_runs.specs.PairedWords.{IsEntryOf, IsPaired, IsPlacedAlike, IsPlacing}
 use Rattle.copied_values.specs.SideBySide.{ArePaired, IsPairing}
-use Rattle.f77_subs.specs.Storage.{IsStorage, IsWordOf, Linked, itself, along, against, placed, size_in}
+use Rattle.program_units.specs.Storage.{IsStorage, IsWordOf, Linked, itself, along, against, placed, size_in}
 
 module _ (us : List (List Labelled)) (names : List NameInfo) (spot other : Entity → ℕ) (one : IsPlacing us names spot) (two : IsPlacing us names other) where
   -- along links both go as far

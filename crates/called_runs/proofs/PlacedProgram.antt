@@ -12,15 +12,15 @@ use Rattle.layout_rules.specs.declared.layout_end.LayoutEnd.{LayoutEnd}
 use Rattle.layout_rules.specs.Declarations.{all_commons, all_groups, dims_of, groups_of}
 use Rattle.layout_rules.specs.Layout.{layout, names_of, program, refusal, unless_refused}
 use Rattle.layout_rules.specs.Types.{dims_named}
-use Rattle.f77_subs.specs.declared.entity.Entity.{Entity}
-use Rattle.f77_subs.specs.declared.entity.Entity.TheVariants.{InBlock}
-use Rattle.f77_subs.specs.Entities.{block_list, entity_of}
-use Rattle.f77_subs.specs.Expansion.{block_size, blocks, common_decl, declared_first, declared_in, members_for, put_in, units_but_main, whole_list}
-use Rattle.f77_subs.specs.Names.{name_for}
-use Rattle.f77_subs.specs.PutIn.{is_put_in}
-use Rattle.f77_subs.specs.Refusals.{has_wrong_dummy, is_odd_part, unit_refusal}
-use Rattle.f77_subs.specs.Storage.{Declares, Distance, IsOfRun}
-use Rattle.f77_subs.specs.Units.{unit_at, units}
+use Rattle.program_units.specs.declared.entity.Entity.{Entity}
+use Rattle.program_units.specs.declared.entity.Entity.TheVariants.{InBlock}
+use Rattle.program_units.specs.Entities.{block_list, entity_of}
+use Rattle.program_units.specs.Expansion.{block_size, blocks, common_decl, declared_first, declared_in, members_for, merged, units_but_main, whole_list}
+use Rattle.program_units.specs.Names.{name_for}
+use Rattle.program_units.specs.Merged.{is_merged}
+use Rattle.program_units.specs.Refusals.{has_wrong_dummy, is_mismatched_part, unit_refusal}
+use Rattle.program_units.specs.Storage.{Declares, Distance, IsOfRun}
+use Rattle.program_units.specs.Units.{unit_at, units}
 use Rattle.called_runs.specs.PairedWords.{IsPlacing, listed_spot}
 use Rattle.called_runs.proofs.DeclaredAlike.{blocks-even, dummies-right, own-declared}
 use Rattle.called_runs.proofs.LinkedEntities.{linked-apart}
@@ -54,14 +54,14 @@ module _ (stmts : List Labelled) (checked : Bool) (accepted : unit_refusal stmts
       (once : (k : ℕ) (block : Option (List ℕ)) (i : ℕ) (x : List ℕ) → slice_get (block_list (unit_at us k) block) i ≡ Some x → entity_of us k x ≡ InBlock block i)
       (apart : (e f : Entity) → IsOfRun us e → IsOfRun us f → name_for us e ≡ name_for us f → e ≡ f)
       (dims : (e : Entity) → IsOfRun us e → dims_of list (name_for us e) ≡ dims_of (declared_in us e).0 (declared_in us e).1)
-      (commons : all_commons list ≡ all_commons (take (declared_first (unit_at us 0)) (unit_at us 0)) ++ (all_commons (put_in us) ++ all_commons (drop (declared_first (unit_at us 0)) (unit_at us 0))))
-      (groups : all_groups list ≡ all_groups (take (declared_first (unit_at us 0)) (unit_at us 0)) ++ (all_groups (put_in us) ++ all_groups (drop (declared_first (unit_at us 0)) (unit_at us 0))))
-      (added_commons : all_commons (put_in us) ≡ map (λ block. record { block = block; decls = map (common_decl us block) (range_with_len 0 (block_size us block)) }) (filter (is_put_in us) (blocks us)))
-      (added_groups : all_groups (put_in us) ≡ flat_map (λ k. map (members_for us k) (all_groups (unit_at us k))) (units_but_main us)) where
+      (commons : all_commons list ≡ all_commons (take (declared_first (unit_at us 0)) (unit_at us 0)) ++ (all_commons (merged us) ++ all_commons (drop (declared_first (unit_at us 0)) (unit_at us 0))))
+      (groups : all_groups list ≡ all_groups (take (declared_first (unit_at us 0)) (unit_at us 0)) ++ (all_groups (merged us) ++ all_groups (drop (declared_first (unit_at us 0)) (unit_at us 0))))
+      (added_commons : all_commons (merged us) ≡ map (λ block. record { block = block; decls = map (common_decl us block) (range_with_len 0 (block_size us block)) }) (filter (is_merged us) (blocks us)))
+      (added_groups : all_groups (merged us) ≡ flat_map (λ k. map (members_for us k) (all_groups (unit_at us k))) (units_but_main us)) where
     table : (x : List ℕ) → dims_named names x ≡ dims_of list x
     table x = same_dims x ∙ dims_in_table list x
 
-    even : (k : ℕ) → list_any (is_odd_part us (unit_at us k)) (all_commons (unit_at us k)) ≡ false
+    even : (k : ℕ) → list_any (is_mismatched_part us (unit_at us k)) (all_commons (unit_at us k)) ≡ false
     even = blocks-even stmts checked accepted
 
     own : (k : ℕ) (x : List ℕ) → dims_of (unit_at us k) x ≡ dims_of (declared_in us (entity_of us k x)).0 (declared_in us (entity_of us k x)).1

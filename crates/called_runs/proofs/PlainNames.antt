@@ -8,7 +8,7 @@ use Rattle.f77_tree.specs.declared.statements.Stmt.TheVariants.{Sub, CallTo, Bac
 use Rattle.layout_rules.proofs.NamesOf.{appearing-ThenIf}
 use Rattle.layout_rules.specs.Appearances.{appearing, names_in}
 use Rattle.layout_rules.specs.Types.{is_of_kind, is_well_kinded}
-use Rattle.f77_subs.specs.Units.{stand_in, stand_in_alone}
+use Rattle.program_units.specs.Units.{stand_in, stand_in_alone}
 
 module _ (arrays : List ℕ → Bool) where
   alone-same : (s : Stmt) → appearing arrays (stand_in_alone s) ≡ appearing arrays s

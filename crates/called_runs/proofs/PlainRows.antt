@@ -12,13 +12,13 @@ use Rattle.f77_tree.specs.declared.statements.Stmt.TheVariants.{CallTo, Back, St
 use Rattle.f77_tree.specs.Execution.{outcome}
 use Rattle.f77_tree.specs.Run.{State, step, after as program_after}
 use Rattle.f77_tree.proofs.RunLaws.{step-running}
-use Rattle.f77_subs.specs.declared.entity.Entity.{Entity}
-use Rattle.f77_subs.specs.Calls.{CallState, Does, act, act_of_pass, after}
-use Rattle.f77_subs.specs.Contexts.{IsReached}
-use Rattle.f77_subs.specs.Copies.{Context, Change, changes}
-use Rattle.f77_subs.specs.Expansion.{whole_list}
-use Rattle.f77_subs.specs.Layouts.{own_program}
-use Rattle.f77_subs.specs.Units.{call_by, call_in, inner, unit_at}
+use Rattle.program_units.specs.declared.entity.Entity.{Entity}
+use Rattle.program_units.specs.Calls.{CallState, Does, act, act_of_pass, after}
+use Rattle.program_units.specs.Contexts.{IsReached}
+use Rattle.program_units.specs.Copies.{Context, Change, changes}
+use Rattle.program_units.specs.Expansion.{whole_list}
+use Rattle.program_units.specs.Layouts.{own_program}
+use Rattle.program_units.specs.Units.{call_by, call_in, inner, unit_at}
 use Rattle.called_runs.specs.CopiedKinds.{ArePairwise, IsCopyOf, assign_alike, end_alike, next_alike, pass_alike, pick_alike, print_alike, sign_alike, start_alike, take_alike, test_alike}
 use Rattle.called_runs.specs.CopiedPositions.{AreCopiedLoops, Stands, leaves}
 use Rattle.called_runs.specs.FramesInStep.{AreInStep, AreLive, frame_in, innermost}

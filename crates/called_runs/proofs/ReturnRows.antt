@@ -11,14 +11,14 @@ use Rattle.f77_tree.specs.declared.statements.Stmt.{Stmt}
 use Rattle.f77_tree.specs.declared.statements.Stmt.TheVariants.{Continue, End}
 use Rattle.f77_tree.specs.Run.{Running, State, step}
 use Rattle.layout_rules.specs.Executables.{beyond, first_of, labelled, own_kinds}
-use Rattle.f77_subs.specs.declared.entity.Entity.{Entity}
-use Rattle.f77_subs.specs.Calls.{CallState, Frame, Halts, Returns, act}
-use Rattle.f77_subs.specs.Contexts.{IsReached}
-use Rattle.f77_subs.specs.Copies.{Context, bare, changes, number_at}
-use Rattle.f77_subs.specs.Expansion.{whole_list}
-use Rattle.f77_subs.specs.Layouts.{own_program}
-use Rattle.f77_subs.specs.Units.{is_end, stand_in, standing_in, unit_at, unit_of}
-use Rattle.f77_subs.specs.Widths.{body_labels, is_kept}
+use Rattle.program_units.specs.declared.entity.Entity.{Entity}
+use Rattle.program_units.specs.Calls.{CallState, Frame, Halts, Returns, act}
+use Rattle.program_units.specs.Contexts.{IsReached}
+use Rattle.program_units.specs.Copies.{Context, bare, changes, number_at}
+use Rattle.program_units.specs.Expansion.{whole_list}
+use Rattle.program_units.specs.Layouts.{own_program}
+use Rattle.program_units.specs.Units.{is_end, stand_in, standing_in, unit_at, unit_of}
+use Rattle.program_units.specs.Widths.{body_labels, is_kept}
 use Rattle.called_runs.specs.CopiedPositions.{Stands, last_place, standing}
 use Rattle.called_runs.specs.FramesInStep.{AreInStep, Wait, behind, nobody}
 use Rattle.called_runs.proofs.AlikeRuns.{call_step}

@@ -6,10 +6,10 @@ use Rattle.std.proofs.lemmas.List.{reverse-append}
 use Rattle.std.proofs.lemmas.List.Folds.{list_all-append}
 use Rattle.f77_tree.specs.declared.statements.Labelled.{Labelled}
 use Rattle.layout_rules.specs.Executables.{is_do_in, is_do_to, loops_to}
-use Rattle.f77_subs.specs.Units.{unit_at}
-use Rattle.f77_subs.specs.Widths.{is_kept}
-use Rattle.f77_subs.specs.Copies.{Context}
-use Rattle.f77_subs.specs.ListedCopies.{piece_at}
+use Rattle.program_units.specs.Units.{unit_at}
+use Rattle.program_units.specs.Widths.{is_kept}
+use Rattle.program_units.specs.Copies.{Context}
+use Rattle.program_units.specs.ListedCopies.{piece_at}
 use Rattle.called_runs.proofs.Grounds.{AreLaid, IsCopied}
 use Rattle.called_runs.proofs.LastPieces.{last-one}
 

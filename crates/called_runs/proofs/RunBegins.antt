@@ -7,17 +7,17 @@ use Rattle.f77_tree.specs.declared.statements.Labelled.{Labelled}
 use Rattle.layout_rules.specs.Executables.{first_of, loops_to, met, own_executables}
 use Rattle.layout_rules.specs.Jumps.{end_of_block}
 use Rattle.layout_rules.specs.Labels.{is_arm, is_executable}
-use Rattle.f77_subs.specs.Units.{unit_at}
-use Rattle.f77_subs.specs.Widths.{labels_before}
-use Rattle.f77_subs.specs.Contexts.{main}
-use Rattle.f77_subs.specs.Copies.{Context}
-use Rattle.f77_subs.specs.Expansion.{declared_first, main_context, main_pieces, put_in, whole_list}
-use Rattle.f77_subs.specs.ListedCopies.{HasAt, main_place, width_before}
-use Rattle.f77_subs.specs.OpenBlocks.{are_closed}
+use Rattle.program_units.specs.Units.{unit_at}
+use Rattle.program_units.specs.Widths.{labels_before}
+use Rattle.program_units.specs.Contexts.{main}
+use Rattle.program_units.specs.Copies.{Context}
+use Rattle.program_units.specs.Expansion.{declared_first, main_context, main_pieces, merged, whole_list}
+use Rattle.program_units.specs.ListedCopies.{HasAt, main_place, width_before}
+use Rattle.program_units.specs.OpenBlocks.{are_closed}
 use Rattle.copied_control.specs.Landings.{landing_after}
-use Rattle.f77_subs.proofs.BlockRoles.{does_nothing}
-use Rattle.f77_subs.proofs.Having.{alike, has_all, has_first}
-use Rattle.f77_subs.proofs.PutInDeclared.{put-in-declared}
+use Rattle.unit_laws.proofs.BlockRoles.{does_nothing, call_neutral}
+use Rattle.unit_laws.proofs.Having.{alike, has_all, has_first}
+use Rattle.unit_laws.proofs.MergedDeclared.{merged-declared}
 use Rattle.copied_control.proofs.MappedArms.{first_here, rest_here}
 use Rattle.copied_control.proofs.MappedLandings.{landings-mapped, met-is}
 use Rattle.copied_control.proofs.SealedCopies.{turned-neutral}
@@ -26,7 +26,6 @@ use Rattle.called_runs.proofs.Grounds.{AreLaid, IsCopied}
 use Rattle.called_runs.proofs.ListedExecutables.{declared-first, own-none}
 use Rattle.called_runs.proofs.StandingBegins.{arm-open, some-statement}
 use Rattle.called_runs.proofs.StandingPlaces.{HasEnd, end-from, end-later, left-next, none-has, plain-next, unless-own}
-use Rattle.f77_subs.proofs.BlockRoles.{call_neutral}
 
 module _ (us : List (List Labelled)) (list : List Labelled) (laid : AreLaid us list) (c : Context) (at : ℕ → ℕ) (held : IsCopied us list c at) where
   abbrev unit : List Labelled
@@ -69,17 +68,17 @@ module _ (us : List (List Labelled)) (laid : AreLaid us (whole_list us)) where
   front-none = by_test (nat_lt 0 (declared_first (unit_at us 0))) refl
     where
       by_test : (b : Bool) → nat_lt 0 (declared_first (unit_at us 0)) ≡ b → first_of (whole_list us) (main_place us 0) ≡ 0
-      by_test true is = ap (λ (b : Bool). first_of (whole_list us) (width_before us (length us) 0 0 + (if b then 0 else length (put_in us)))) is
+      by_test true is = ap (λ (b : Bool). first_of (whole_list us) (width_before us (length us) 0 0 + (if b then 0 else length (merged us)))) is
       by_test false is =
           let p = declared_first (unit_at us 0) in
           let least = ltb-false 0 p is in
           let none : p ≡ 0 = omega (arith, least) in
           let late = main_pieces us (labels_before us (length us) 0 p) (drop p (unit_at us 0)) in
           let early : main_pieces us 0 (take p (unit_at us 0)) ≡ [] = ap (λ (n : ℕ). main_pieces us 0 (take n (unit_at us 0))) none in
-          let whole : whole_list us ≡ put_in us ++ late = append_assoc (main_pieces us 0 (take p (unit_at us 0))) (put_in us) late ∙ ap (λ (xs : List Labelled). xs ++ (put_in us ++ late)) early in
-          let has : HasAt (whole_list us) 0 (put_in us) = has_first (whole_list us) (put_in us) late 0 (alike (whole_list us) (whole_list us) (put_in us ++ late) 0 whole (has_all (whole_list us))) in
-          ap (λ (b : Bool). first_of (whole_list us) (width_before us (length us) 0 0 + (if b then 0 else length (put_in us)))) is
-          ∙ declared-first (whole_list us) laid.execs laid.leads (put_in us) 0 has (put-in-declared us)
+          let whole : whole_list us ≡ merged us ++ late = append_assoc (main_pieces us 0 (take p (unit_at us 0))) (merged us) late ∙ ap (λ (xs : List Labelled). xs ++ (merged us ++ late)) early in
+          let has : HasAt (whole_list us) 0 (merged us) = has_first (whole_list us) (merged us) late 0 (alike (whole_list us) (whole_list us) (merged us ++ late) 0 whole (has_all (whole_list us))) in
+          ap (λ (b : Bool). first_of (whole_list us) (width_before us (length us) 0 0 + (if b then 0 else length (merged us)))) is
+          ∙ declared-first (whole_list us) laid.execs laid.leads (merged us) 0 has (merged-declared us)
 
   -- the run of the list begins at the main program
   pub run-begins : met (whole_list us) (main_place us 0) ≡ 0

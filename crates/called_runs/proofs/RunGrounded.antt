@@ -14,13 +14,13 @@ use Rattle.layout_rules.specs.Types.{is_well_kinded}
 use Rattle.copied_values.specs.ChangedTables.{AreChangedTables}
 use Rattle.copied_values.specs.SideBySide.{AreTied, IsPairing}
 use Rattle.copied_values.proofs.FrameTables.{frame-table, program-table}
-use Rattle.f77_subs.specs.declared.entity.Entity.{Entity}
-use Rattle.f77_subs.specs.Contexts.{IsReached}
-use Rattle.f77_subs.specs.Copies.{Context, changes}
-use Rattle.f77_subs.specs.Expansion.{whole_list}
-use Rattle.f77_subs.specs.Layouts.{own_program}
-use Rattle.f77_subs.specs.Units.{standing_in, unit_at, units}
-use Rattle.f77_subs.proofs.ReachedUnits.{unit-inside}
+use Rattle.program_units.specs.declared.entity.Entity.{Entity}
+use Rattle.program_units.specs.Contexts.{IsReached}
+use Rattle.program_units.specs.Copies.{Context, changes}
+use Rattle.program_units.specs.Expansion.{whole_list}
+use Rattle.program_units.specs.Layouts.{own_program}
+use Rattle.program_units.specs.Units.{standing_in, unit_at, units}
+use Rattle.unit_laws.proofs.ReachedUnits.{unit-inside}
 use Rattle.called_runs.specs.Expanded.{IsExpanded}
 use Rattle.called_runs.proofs.AcceptedGrounds.{grounds, laid-here, source-here}
 use Rattle.called_runs.proofs.Grounds.{AreLaid}

@@ -12,14 +12,14 @@ use Rattle.layout_rules.specs.Labels.{is_executable}
 use Rattle.layout_rules.specs.Source.{EndsWithEnd}
 use Rattle.copied_values.specs.ChangedTables.{AreChangedTables}
 use Rattle.copied_values.specs.SideBySide.{IsPairing}
-use Rattle.f77_subs.specs.declared.entity.Entity.{Entity}
-use Rattle.f77_subs.specs.Contexts.{IsReached}
-use Rattle.f77_subs.specs.Copies.{Context, changes}
-use Rattle.f77_subs.specs.Expansion.{whole_list}
-use Rattle.f77_subs.specs.Layouts.{own_program}
-use Rattle.f77_subs.specs.ListedCopies.{main_place}
-use Rattle.f77_subs.specs.Storage.{placed}
-use Rattle.f77_subs.specs.Units.{inner, is_return, standing_in, unit_at}
+use Rattle.program_units.specs.declared.entity.Entity.{Entity}
+use Rattle.program_units.specs.Contexts.{IsReached}
+use Rattle.program_units.specs.Copies.{Context, changes}
+use Rattle.program_units.specs.Expansion.{whole_list}
+use Rattle.program_units.specs.Layouts.{own_program}
+use Rattle.program_units.specs.ListedCopies.{main_place}
+use Rattle.program_units.specs.Storage.{placed}
+use Rattle.program_units.specs.Units.{inner, is_return, standing_in, unit_at}
 use Rattle.called_runs.specs.CopiedPositions.{AreCopiedLoops}
 use Rattle.called_runs.specs.FramesInStep.{IsInside}
 use Rattle.called_runs.proofs.CopiedOutcomes.{IsTiedStatement}

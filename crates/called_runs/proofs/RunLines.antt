@@ -8,11 +8,11 @@ use Rattle.layout_rules.specs.Faults.{first_line}
 use Rattle.control_structure.proofs.LabelLemmas.{faultless}
 use Rattle.f77_layout.proofs.WellFormedPrograms.{laid-well_formed}
 use Rattle.layout_rules.specs.Layout.{program}
-use Rattle.f77_subs.specs.declared.sub_end.SubEnd.TheVariants.{UnitOrder}
-use Rattle.f77_subs.specs.Refusals.{differ, end_at, follows_end, is_out_of_unit, unit_refusal, unit_refusals}
-use Rattle.f77_subs.specs.Texts.{IsText}
-use Rattle.f77_subs.specs.Units.{in_first, inner, is_end, is_return, standing_in, sub_name, unit_at, unit_or_none, units}
-use Rattle.f77_subs.proofs.NoAnswer.{no-end, none-at}
+use Rattle.program_units.specs.declared.sub_end.SubEnd.TheVariants.{UnitOrder}
+use Rattle.program_units.specs.Refusals.{differ, end_at, follows_end, is_out_of_unit, unit_refusal, unit_refusals}
+use Rattle.program_units.specs.Texts.{IsText}
+use Rattle.program_units.specs.Units.{in_first, inner, is_end, is_return, standing_in, sub_name, unit_at, unit_or_none, units}
+use Rattle.unit_laws.proofs.NoAnswer.{no-end, none-at}
 use Rattle.called_runs.proofs.AcceptedGrounds.{laid-here, source-here}
 use Rattle.std.specs.Option.{is_some}
 

@@ -7,10 +7,10 @@ use Rattle.f77_tree.specs.declared.statements.Labelled.{Labelled}
 use Rattle.f77_tree.specs.declared.statements.Stmt.{Stmt}
 use Rattle.f77_tree.specs.declared.statements.Stmt.TheVariants.{Do}
 use Rattle.layout_rules.specs.Executables.{is_do, loop_number}
-use Rattle.f77_subs.specs.Units.{Call, call_in, guard_of, unit_at}
-use Rattle.f77_subs.specs.Contexts.{IsReached, called}
-use Rattle.f77_subs.specs.Copies.{Change, Context, changed_stmt, changes}
-use Rattle.f77_subs.specs.ListedCopies.{called_context, copied_place, lines_before, piece_at}
+use Rattle.program_units.specs.Units.{Call, call_in, guard_of, unit_at}
+use Rattle.program_units.specs.Contexts.{IsReached, called}
+use Rattle.program_units.specs.Copies.{Change, Context, changed_stmt, changes}
+use Rattle.program_units.specs.ListedCopies.{called_context, copied_place, lines_before, piece_at}
 use Rattle.copied_control.proofs.WhichPieces.{IsPlain}
 use Rattle.copied_values.specs.SideBySide.{IsPairing}
 use Rattle.called_runs.specs.CopiedPositions.{AreCopiedLoops, copy_of}

@@ -9,12 +9,12 @@ use Rattle.f77_tree.specs.declared.statements.Stmt.TheVariants.{BlockIf, Continu
 use Rattle.f77_tree.specs.Run.{Running, State, step}
 use Rattle.layout_rules.specs.Executables.{beyond, first_of, met, when_false}
 use Rattle.layout_rules.specs.Resolved.{resolved}
-use Rattle.f77_subs.specs.declared.entity.Entity.{Entity}
-use Rattle.f77_subs.specs.Calls.{Act, CallState, Frame, act, act_of_pass, acted, executed, on_top, pass_on, step_from}
-use Rattle.f77_subs.specs.Copies.{Context, bare}
-use Rattle.f77_subs.specs.Expansion.{whole_list}
-use Rattle.f77_subs.specs.Layouts.{own_program}
-use Rattle.f77_subs.specs.Units.{inner, unit_at}
+use Rattle.program_units.specs.declared.entity.Entity.{Entity}
+use Rattle.program_units.specs.Calls.{Act, CallState, Frame, act, act_of_pass, acted, executed, on_top, pass_on, step_from}
+use Rattle.program_units.specs.Copies.{Context, bare}
+use Rattle.program_units.specs.Expansion.{whole_list}
+use Rattle.program_units.specs.Layouts.{own_program}
+use Rattle.program_units.specs.Units.{inner, unit_at}
 use Rattle.called_runs.specs.FramesInStep.{AreInStep, frame_in, innermost}
 use Rattle.called_runs.proofs.AlikeRuns.{IsFollowed, StopAlike, call_step, steps_on}
 use Rattle.called_runs.proofs.FramesBeside.{Beside, moved, passes}

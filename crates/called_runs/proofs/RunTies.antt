@@ -6,14 +6,14 @@ use Rattle.f77_tree.specs.Value.{ArePlaced}
 use Rattle.f77_tree.specs.WellFormed.{IsWellFormed}
 use Rattle.copied_values.specs.ChangedTables.{AreChangedTables}
 use Rattle.copied_values.specs.SideBySide.{IsPairing}
-use Rattle.f77_subs.specs.Contexts.{IsReached}
-use Rattle.f77_subs.specs.Copies.{Context, change_in, changes}
-use Rattle.f77_subs.specs.declared.entity.Entity.{Entity}
-use Rattle.f77_subs.specs.Layouts.{own_program}
-use Rattle.f77_subs.specs.Refusals.{unit_refusal}
-use Rattle.f77_subs.specs.Storage.{IsStorage, placed}
-use Rattle.f77_subs.specs.Texts.{IsText}
-use Rattle.f77_subs.specs.Units.{unit_at, units}
+use Rattle.program_units.specs.Contexts.{IsReached}
+use Rattle.program_units.specs.Copies.{Context, change_in, changes}
+use Rattle.program_units.specs.declared.entity.Entity.{Entity}
+use Rattle.program_units.specs.Layouts.{own_program}
+use Rattle.program_units.specs.Refusals.{unit_refusal}
+use Rattle.program_units.specs.Storage.{IsStorage, placed}
+use Rattle.program_units.specs.Texts.{IsText}
+use Rattle.program_units.specs.Units.{unit_at, units}
 use Rattle.called_runs.specs.Expanded.{IsExpanded}
 use Rattle.called_runs.specs.PairedWords.{IsPaired, listed_spot}
 use Rattle.called_runs.proofs.RunGrounds.{table_of}

@@ -7,13 +7,13 @@ use Rattle.f77_tree.specs.CanRun.{CanRun}
 use Rattle.f77_tree.specs.Run.{State, source}
 use Rattle.f77_tree.specs.Value.{word_at}
 use Rattle.f77_tree.proofs.RunInvariants.{first-memory}
-use Rattle.f77_subs.specs.declared.entity.Entity.{Entity}
-use Rattle.f77_subs.specs.Calls.{CallState, RunsAlike, called}
-use Rattle.f77_subs.specs.Contexts.{main}
-use Rattle.f77_subs.specs.Expansion.{main_context, whole_list}
-use Rattle.f77_subs.specs.Layouts.{own_program}
-use Rattle.f77_subs.specs.ListedCopies.{main_place}
-use Rattle.f77_subs.specs.Units.{unit_at}
+use Rattle.program_units.specs.declared.entity.Entity.{Entity}
+use Rattle.program_units.specs.Calls.{CallState, RunsAlike, called}
+use Rattle.program_units.specs.Contexts.{main}
+use Rattle.program_units.specs.Expansion.{main_context, whole_list}
+use Rattle.program_units.specs.Layouts.{own_program}
+use Rattle.program_units.specs.ListedCopies.{main_place}
+use Rattle.program_units.specs.Units.{unit_at}
 use Rattle.called_runs.specs.CopiedPositions.{Stands}
 use Rattle.called_runs.specs.FramesInStep.{AreInStep, innermost, nobody}
 use Rattle.called_runs.proofs.AlikeRuns.{HasPace, Matches, run-paces, runs-alike}

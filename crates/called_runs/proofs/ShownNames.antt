@@ -17,7 +17,7 @@ use Rattle.layout_rules.specs.Appearances.{called_name, names_in, names_in_row}
 use Rattle.declared_names.specs.Functions.{intrinsic_named}
 use Rattle.layout_rules.specs.Types.{Intrinsic, count_of_row, is_array_in, is_intrinsic, is_kind, is_row_of, kind_in, kind_of_call}
 use Rattle.copied_values.proofs.ChangedValues.{Array, Function, IsCall, IsFunction, call-is, function, kinds-same}
-use Rattle.f77_subs.specs.Copies.{Change, changed, changed_call, changed_row, intrinsic_or, pairs}
+use Rattle.program_units.specs.Copies.{Change, changed, changed_call, changed_row, intrinsic_or, pairs}
 
 only-if : {A : Type 0} (b : Bool) (o : Option A) → is_some (if b then o else None) ≡ true → (b ≡ true) × (is_some o ≡ true)
 only-if true o some = (refl, some)

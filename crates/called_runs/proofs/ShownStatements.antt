@@ -16,7 +16,7 @@ use Rattle.f77_tree.specs.declared.statements.Stmt.TheVariants.{Program, Implici
 use Rattle.layout_rules.proofs.NamesOf.{appearing-ThenIf}
 use Rattle.layout_rules.specs.Appearances.{appearing, names_if_any, names_in, names_in_item}
 use Rattle.layout_rules.specs.Types.{is_array_in, is_item, is_kind, is_kind_of_target, is_of_kind, is_step, is_target, is_variable, is_well_kinded, kind_in, kind_named}
-use Rattle.f77_subs.specs.Copies.{Change, changed, changed_item, changed_step, changed_stmt}
+use Rattle.program_units.specs.Copies.{Change, changed, changed_item, changed_step, changed_stmt}
 use Rattle.called_runs.proofs.ShownNames.{has-kind, shown}
 
 -- no declaration, alone or after a condition

@@ -10,18 +10,18 @@ use Rattle.f77_tree.proofs.NameLemmas.{bytes_eq-same}
 use Rattle.f77_tree.specs.Name.{is_name}
 use Rattle.f77_tree.specs.declared.statements.Labelled.{Labelled}
 use Rattle.layout_rules.specs.Declarations.{all_commons}
-use Rattle.f77_subs.proofs.ReachedUnits.{first-inside}
-use Rattle.f77_subs.proofs.ShortNames.{none-passes, numbered-short, taken-at}
-use Rattle.f77_subs.proofs.TextNames.{AreNames, text-short, unit-named}
-use Rattle.f77_subs.proofs.UnitSources.{IsUnit, text-unit}
-use Rattle.f77_subs.specs.declared.entity.Entity.{Entity}
-use Rattle.f77_subs.specs.declared.entity.Entity.TheVariants.{InBlock}
-use Rattle.f77_subs.specs.Entities.{block_list, entity_of}
-use Rattle.f77_subs.specs.Names.{free_numbers, is_main, name_for, names_of_unit, option_names, own_names, same_entity, y_entities, y_text}
-use Rattle.f77_subs.specs.Refusals.{unit_refusal}
-use Rattle.f77_subs.specs.Storage.{IsOfRun}
-use Rattle.f77_subs.specs.Texts.{IsText}
-use Rattle.f77_subs.specs.Units.{dummies_of, sub_name, unit_at, unit_or_none, units}
+use Rattle.program_units.proofs.Counting.{first-inside}
+use Rattle.unit_laws.proofs.ShortNames.{none-passes, numbered-short, taken-at}
+use Rattle.unit_laws.proofs.TextNames.{AreNames, text-short, unit-named}
+use Rattle.unit_laws.proofs.UnitSources.{IsUnit, text-unit}
+use Rattle.program_units.specs.declared.entity.Entity.{Entity}
+use Rattle.program_units.specs.declared.entity.Entity.TheVariants.{InBlock}
+use Rattle.program_units.specs.Entities.{block_list, entity_of}
+use Rattle.program_units.specs.Names.{free_numbers, is_main, name_for, names_of_unit, option_names, own_names, same_entity, y_entities, y_text}
+use Rattle.program_units.specs.Refusals.{unit_refusal}
+use Rattle.program_units.specs.Storage.{IsOfRun}
+use Rattle.program_units.specs.Texts.{IsText}
+use Rattle.program_units.specs.Units.{dummies_of, sub_name, unit_at, unit_or_none, units}
 use Rattle.called_runs.proofs.BlocksOfTexts.{none-great}
 use Rattle.called_runs.proofs.DeclaredAlike.{blocks-even}
 use Rattle.called_runs.proofs.EntityNames.{in-names, of-own, own-entity}

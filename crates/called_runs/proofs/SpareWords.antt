@@ -20,12 +20,12 @@ use Rattle.f77_tree.specs.WellFormed.{IsWellFormed}
 use Rattle.control_laws.proofs.LoopPlaces.{got_left, got_right}
 use Rattle.layout_rules.specs.Declarations.{all_inits}
 use Rattle.layout_rules.specs.Layout.{program}
-use Rattle.f77_subs.specs.declared.entity.Entity.{Entity}
-use Rattle.f77_subs.specs.Expansion.{whole_list}
-use Rattle.f77_subs.specs.Layouts.{own_program}
-use Rattle.f77_subs.specs.Names.{name_for}
-use Rattle.f77_subs.specs.Storage.{Declares, Distance, IsOfRun, IsStorage, IsWordOf, Linked, itself, placed, size_in}
-use Rattle.f77_subs.specs.Units.{runs, unit_at}
+use Rattle.program_units.specs.declared.entity.Entity.{Entity}
+use Rattle.program_units.specs.Expansion.{whole_list}
+use Rattle.program_units.specs.Layouts.{own_program}
+use Rattle.program_units.specs.Names.{name_for}
+use Rattle.program_units.specs.Storage.{Declares, Distance, IsOfRun, IsStorage, IsWordOf, Linked, itself, placed, size_in}
+use Rattle.program_units.specs.Units.{runs, unit_at}
 use Rattle.called_runs.specs.PairedWords.{IsPaired, IsPlacing, listed_spot}
 use Rattle.called_runs.proofs.KnownEnds.{IsKnown}
 use Rattle.called_runs.proofs.SpareNumbers.{HaveNumbers}

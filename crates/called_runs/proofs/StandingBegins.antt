@@ -8,11 +8,11 @@ use Rattle.f77_tree.specs.declared.statements.Stmt.TheVariants.{ElseIf, Else}
 use Rattle.layout_rules.specs.Executables.{first_of, met, own_executables}
 use Rattle.layout_rules.specs.Jumps.{end_of_block, is_block_if, is_end_if}
 use Rattle.layout_rules.specs.Labels.{is_arm, is_executable}
-use Rattle.f77_subs.specs.Units.{unit_at}
-use Rattle.f77_subs.specs.Copies.{Context}
-use Rattle.f77_subs.specs.OpenBlocks.{are_closed}
+use Rattle.program_units.specs.Units.{unit_at}
+use Rattle.program_units.specs.Copies.{Context}
+use Rattle.program_units.specs.OpenBlocks.{are_closed}
 use Rattle.copied_control.specs.Landings.{landing_after}
-use Rattle.f77_subs.proofs.BlockRoles.{does_nothing}
+use Rattle.unit_laws.proofs.BlockRoles.{does_nothing}
 use Rattle.copied_control.proofs.MappedArms.{first_here, rest_here}
 use Rattle.copied_control.proofs.MappedLandings.{met-is}
 use Rattle.copied_control.proofs.SealedCopies.{turned, turned-neutral}

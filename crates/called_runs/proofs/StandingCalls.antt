@@ -7,19 +7,19 @@ use Rattle.f77_tree.specs.declared.statements.Stmt.TheVariants.{Continue, BlockI
 use Rattle.layout_rules.specs.Executables.{beyond, first_of, met, met_after}
 use Rattle.layout_rules.specs.Jumps.{end_of_block}
 use Rattle.layout_rules.specs.Labels.{is_arm, is_executable}
-use Rattle.f77_subs.specs.Units.{Call, call_in, guard_of, unit_at, unit_of}
-use Rattle.f77_subs.specs.Entities.{stands_for}
-use Rattle.f77_subs.specs.Widths.{body_labels, is_kept}
-use Rattle.f77_subs.specs.Copies.{Context, around, bare, changed, changes, copy, number_at}
-use Rattle.f77_subs.specs.ListedCopies.{HasAt, called_context, copied_place, lines_before, piece_at}
-use Rattle.f77_subs.proofs.Having.{alike, got}
+use Rattle.program_units.specs.Units.{Call, call_in, guard_of, unit_at, unit_of}
+use Rattle.program_units.specs.Entities.{stands_for}
+use Rattle.program_units.specs.Widths.{body_labels, is_kept}
+use Rattle.program_units.specs.Copies.{Context, around, bare, changed, changes, copy, number_at}
+use Rattle.program_units.specs.ListedCopies.{HasAt, called_context, copied_place, lines_before, piece_at}
+use Rattle.unit_laws.proofs.Having.{alike, got}
 use Rattle.copied_control.proofs.LoopsTo.{first-loops}
 use Rattle.copied_control.proofs.MappedArms.{drop_here}
 use Rattle.copied_control.proofs.WhichPieces.{piece-around}
 use Rattle.called_runs.specs.CopiedPositions.{Stands}
 use Rattle.called_runs.proofs.Grounds.{AreLaid, IsCopied}
 use Rattle.called_runs.proofs.StandingNexts.{gone_on}
-use Rattle.f77_subs.proofs.Kept.{kept_or_none}
+use Rattle.unit_laws.proofs.Kept.{kept_or_none}
 use Rattle.called_runs.proofs.StandingBegins.{stands-begin}
 
 -- control stops at a statement that does something and begins no arm

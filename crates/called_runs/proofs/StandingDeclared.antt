@@ -3,18 +3,16 @@ use Rattle.std.proofs.Common.{◌≡◌, ℕ, Bool, ◌||◌, List, [], ◌∷�
 use Rattle.std.specs.Prelude.{slice_index}
 use Rattle.std.specs.List.{list_any}
 use Rattle.std.proofs.lemmas.List.Concat.{flat_map-cons}
-use Rattle.f77_tree.specs.declared.declarations.CommonPart.{CommonPart}
 use Rattle.f77_tree.specs.declared.declarations.Decl.{Decl}
 use Rattle.f77_tree.specs.declared.declarations.InitPart.{InitPart}
 use Rattle.f77_tree.specs.declared.declarations.Kind.{Kind}
-use Rattle.f77_tree.specs.declared.declarations.Member.{Member}
 use Rattle.f77_tree.specs.declared.statements.Labelled.{Labelled}
 use Rattle.f77_tree.specs.declared.statements.Stmt.{Stmt, more_of-Stmt}
 use Rattle.f77_tree.specs.declared.statements.Stmt.TheVariants.{Program, Implicit, ImplicitNone, TypeOf, Dimension, Common, Equivalence, Init, Assign, Print, Take, Continue, Stop, GoTo, PickGoTo, SignIf, ThenIf', BlockIf, ElseIf, Else, EndIf, Do, Sub, CallTo, Back, End}
-use Rattle.layout_rules.specs.Declarations.{all_commons, all_declarators, all_inits, declarators, dims_told, dims_or_none, groups_of, inits_of, is_implicit_none, kind_by_default, kind_implied, kind_of, kind_typed, parts_of}
+use Rattle.layout_rules.specs.Declarations.{all_declarators, all_inits, declarators, dims_told, dims_or_none, inits_of, is_implicit_none, kind_by_default, kind_implied, kind_of, kind_typed}
 use Rattle.layout_rules.specs.Faults.{answer_or, first_answer}
 use Rattle.called_runs.specs.DeclaredNames.{AreDeclaredAlike}
-use Rattle.f77_subs.specs.Units.{stand_in, standing_in}
+use Rattle.program_units.specs.Units.{stand_in, standing_in}
 
 -- what a statement tells of a name
 record Told : Type 0 where
@@ -22,12 +20,10 @@ record Told : Type 0 where
   typed : Option Kind
   implied : Option Kind
   none : Bool
-  parts : List CommonPart
-  groups : List (List Member)
   inits : List InitPart
 
 abbrev told : (x : List ℕ) → Stmt → Told
-told x s = record { decls = declarators s; typed = kind_typed x s; implied = kind_implied (slice_index x 0) s; none = is_implicit_none s; parts = parts_of s; groups = groups_of s; inits = inits_of s }
+told x s = record { decls = declarators s; typed = kind_typed x s; implied = kind_implied (slice_index x 0) s; none = is_implicit_none s; inits = inits_of s }
 
 module _ (x : List ℕ) where
   told-same : (s : Stmt) → told x (stand_in s) ≡ told x s
@@ -93,9 +89,6 @@ module _ {X : Type 0} (f : Stmt → List X) (same : (s : Stmt) → f (stand_in s
   of-same : (u : List Labelled) → flat_map (λ (s : Labelled). f s.stmt) (standing_in u) ≡ flat_map (λ (s : Labelled). f s.stmt) u
   of-same [] = refl
   of-same (s ∷ u) = ap (λ (xs : List X). xs ++ flat_map (λ (t : Labelled). f t.stmt) (standing_in u)) (same s.stmt) ∙ ap (λ (xs : List X). f s.stmt ++ xs) (of-same u)
-
-pub commons-same : (u : List Labelled) → all_commons (standing_in u) ≡ all_commons u
-commons-same u = of-same parts_of (λ s. ap (λ (t : Told). t.parts) (told-same [] s)) u
 
 pub inits-same : (u : List Labelled) → all_inits (standing_in u) ≡ all_inits u
 inits-same u = of-same inits_of (λ s. ap (λ (t : Told). t.inits) (told-same [] s)) u

@@ -7,9 +7,9 @@ use Rattle.f77_tree.specs.declared.statements.Labelled.{Labelled}
 use Rattle.f77_tree.specs.declared.statements.Stmt.{Stmt}
 use Rattle.f77_tree.specs.declared.statements.Stmt.TheVariants.{Do}
 use Rattle.layout_rules.specs.Executables.{exit_after, exit_among, first_of, is_do_to, loops_to, own_executables}
-use Rattle.f77_subs.specs.Units.{Call, call_in, is_end, unit_at}
-use Rattle.f77_subs.specs.Widths.{is_kept}
-use Rattle.f77_subs.specs.Copies.{Context}
+use Rattle.program_units.specs.Units.{Call, call_in, is_end, unit_at}
+use Rattle.program_units.specs.Widths.{is_kept}
+use Rattle.program_units.specs.Copies.{Context}
 use Rattle.copied_control.proofs.WhichPieces.{IsPlain}
 use Rattle.called_runs.specs.CopiedPositions.{Stands, at_increment, first_increment, last_place, own_of_last}
 use Rattle.called_runs.proofs.Grounds.{AreLaid, IsCopied}

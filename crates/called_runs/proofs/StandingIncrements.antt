@@ -12,9 +12,9 @@ use Rattle.f77_tree.specs.declared.statements.Stmt.{Stmt}
 use Rattle.f77_tree.specs.declared.statements.Stmt.TheVariants.{Do}
 use Rattle.f77_tree.specs.Declarations.{index_of}
 use Rattle.layout_rules.specs.Executables.{exit_after, first_of, increments, is_do, is_do_to, loop_number, loops_to, own_executables, variable_of}
-use Rattle.f77_subs.specs.Units.{is_end, standing_in, unit_at}
-use Rattle.f77_subs.specs.Widths.{is_kept}
-use Rattle.f77_subs.specs.Copies.{Context, changed_stmt, changes}
+use Rattle.program_units.specs.Units.{is_end, standing_in, unit_at}
+use Rattle.program_units.specs.Widths.{is_kept}
+use Rattle.program_units.specs.Copies.{Context, changed_stmt, changes}
 use Rattle.copied_control.proofs.WhichPieces.{IsPlain}
 use Rattle.called_runs.specs.CopiedKinds.{ArePairwise, IsCopyOf, next_alike}
 use Rattle.called_runs.specs.CopiedPositions.{AreCopiedLoops, Stands, first_increment, last_place, standing}

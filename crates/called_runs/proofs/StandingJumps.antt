@@ -7,11 +7,11 @@ use Rattle.f77_tree.specs.declared.statements.Labelled.{Labelled}
 use Rattle.layout_rules.specs.Executables.{first_of, labelled}
 use Rattle.layout_rules.specs.Labels.{is_arm, is_executable, statement_of}
 use Rattle.f77_layout.specs.Leading.{IsLedTo}
-use Rattle.f77_subs.specs.Units.{Call, call_in, is_end, standing_in, unit_at}
-use Rattle.f77_subs.specs.Widths.{is_kept, labels, labels_by, body_labels}
-use Rattle.f77_subs.specs.Copies.{Context, changes, number_at}
-use Rattle.f77_subs.proofs.BlockRoles.{unkept_is_end}
-use Rattle.f77_subs.proofs.PieceLabels.{number-next}
+use Rattle.program_units.specs.Units.{Call, call_in, is_end, standing_in, unit_at}
+use Rattle.program_units.specs.Widths.{is_kept, labels, labels_by, body_labels}
+use Rattle.program_units.specs.Copies.{Context, changes, number_at}
+use Rattle.unit_laws.proofs.BlockRoles.{unkept_is_end}
+use Rattle.unit_laws.proofs.PieceLabels.{number-next}
 use Rattle.copied_control.proofs.LabelPlaces.{first-leads}
 use Rattle.copied_control.proofs.MappedLandings.{last-is}
 use Rattle.copied_control.proofs.WhichPieces.{Which, left_out, calling, single, which, call-count}

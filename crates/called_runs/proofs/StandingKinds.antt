@@ -11,7 +11,7 @@ use Rattle.f77_tree.specs.declared.statements.Stmt.TheVariants.{Assign, Print, T
 use Rattle.layout_rules.specs.Executables.{labelled, own_kinds, taking}
 use Rattle.layout_rules.specs.Labels.{jumps}
 use Rattle.layout_rules.specs.Tables.{is_simple}
-use Rattle.f77_subs.specs.Copies.{Change, changed, changed_stmt}
+use Rattle.program_units.specs.Copies.{Change, changed, changed_stmt}
 use Rattle.called_runs.specs.CopiedKinds.{ArePairwise, IsCopyOf, assign_alike, take_alike, print_alike, pass_alike, sign_alike, pick_alike}
 use Rattle.called_runs.specs.CopiedPositions.{leaves}
 

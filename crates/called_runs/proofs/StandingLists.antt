@@ -7,7 +7,7 @@ use Rattle.f77_tree.specs.declared.statements.Labelled.{Labelled}
 use Rattle.layout_rules.specs.Executables.{executables_with_ends, first_of, is_do, is_do_in, is_else_at, loop_number, loops_to, met, met_after, own_executables}
 use Rattle.layout_rules.specs.Jumps.{end_after, end_of_arm, end_of_block, is_block_if, is_end_if}
 use Rattle.layout_rules.specs.Labels.{is_arm, is_executable, statement_of}
-use Rattle.f77_subs.specs.Units.{stand_in, standing_in}
+use Rattle.program_units.specs.Units.{stand_in, standing_in}
 use Rattle.called_runs.specs.CopiedPositions.{standing}
 use Rattle.called_runs.proofs.ControlRoles.{stand-role}
 

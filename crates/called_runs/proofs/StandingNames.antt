@@ -20,13 +20,13 @@ use Rattle.layout_rules.specs.Appearances.{all_names, appearing, names_in}
 use Rattle.layout_rules.specs.Declarations.{dims_of, is_array}
 use Rattle.layout_rules.specs.Layout.{name_info, names_of, placed_from, placed_names, spots_of}
 use Rattle.layout_rules.specs.Storage.{Spot}
-use Rattle.f77_subs.proofs.StoredNames.{told-all}
-use Rattle.f77_subs.specs.declared.entity.Entity.{Entity}
-use Rattle.f77_subs.specs.Entities.{stands_for}
-use Rattle.f77_subs.specs.Layouts.{own_program}
-use Rattle.f77_subs.specs.Names.{appearing_here, names_of_unit}
-use Rattle.f77_subs.specs.Storage.{IsOfRun}
-use Rattle.f77_subs.specs.Units.{stand_in, stand_in_alone, standing_in, unit_at}
+use Rattle.program_units.proofs.StoredNames.{told-all}
+use Rattle.program_units.specs.declared.entity.Entity.{Entity}
+use Rattle.program_units.specs.Entities.{stands_for}
+use Rattle.program_units.specs.Layouts.{own_program}
+use Rattle.program_units.specs.Names.{appearing_here, names_of_unit}
+use Rattle.program_units.specs.Storage.{IsOfRun}
+use Rattle.program_units.specs.Units.{stand_in, stand_in_alone, standing_in, unit_at}
 use Rattle.called_runs.specs.DeclaredNames.{IsDeclaredAs}
 use Rattle.called_runs.specs.PairedWords.{IsEntryOf}
 

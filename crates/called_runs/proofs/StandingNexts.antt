@@ -10,12 +10,12 @@ use Rattle.f77_tree.specs.declared.statements.Stmt.TheVariants.{ElseIf, Else, En
 use Rattle.layout_rules.specs.Executables.{beyond, first_of, is_else_at, loops_to, met, own_executables, when_false}
 use Rattle.layout_rules.specs.Jumps.{end_of_arm, is_block_if, is_end_if}
 use Rattle.layout_rules.specs.Labels.{is_arm}
-use Rattle.f77_subs.specs.Units.{Call, call_in, is_end, standing_in, unit_at}
-use Rattle.f77_subs.specs.Widths.{is_kept}
-use Rattle.f77_subs.specs.Copies.{Context, changes, changed_stmt}
-use Rattle.f77_subs.specs.ListedCopies.{piece_at}
+use Rattle.program_units.specs.Units.{Call, call_in, is_end, standing_in, unit_at}
+use Rattle.program_units.specs.Widths.{is_kept}
+use Rattle.program_units.specs.Copies.{Context, changes, changed_stmt}
+use Rattle.program_units.specs.ListedCopies.{piece_at}
 use Rattle.copied_control.specs.Landings.{landing}
-use Rattle.f77_subs.proofs.BlockRoles.{changed-alike}
+use Rattle.unit_laws.proofs.BlockRoles.{changed-alike}
 use Rattle.copied_control.proofs.MappedArms.{arms-mapped}
 use Rattle.copied_control.proofs.MappedLandings.{lands-next, met-is}
 use Rattle.copied_control.proofs.WhichPieces.{IsPlain, plain-piece}

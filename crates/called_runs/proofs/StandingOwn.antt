@@ -14,8 +14,8 @@ use Rattle.layout_rules.specs.Jumps.{is_block_if}
 use Rattle.layout_rules.specs.Labels.{IsLabel, is_arm, jumps, used}
 use Rattle.layout_rules.specs.StatementTrees.{IsTree}
 use Rattle.layout_rules.specs.Tables.{has_simple_inner, is_simple}
-use Rattle.f77_subs.specs.Units.{call_by, call_in, inner, is_end, stand_in, stand_in_alone, standing_in, unit_at}
-use Rattle.f77_subs.specs.Copies.{Context, changed_stmt, changes}
+use Rattle.program_units.specs.Units.{call_by, call_in, inner, is_end, stand_in, stand_in_alone, standing_in, unit_at}
+use Rattle.program_units.specs.Copies.{Context, changed_stmt, changes}
 use Rattle.copied_control.proofs.WhichPieces.{IsPlain}
 use Rattle.called_runs.specs.CopiedKinds.{ArePairwise, IsCopyOf, condition_of, end_alike, pass_alike, start_alike, test_alike}
 use Rattle.called_runs.specs.CopiedPositions.{AreCopiedLoops, Stands, at_copy, leaves, standing, copy_of}

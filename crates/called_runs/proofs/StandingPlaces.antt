@@ -13,14 +13,14 @@ use Rattle.layout_rules.specs.Executables.{first_of, loops_to, met, own_executab
 use Rattle.layout_rules.specs.Jumps.{end_of_block, is_block_if}
 use Rattle.layout_rules.specs.Labels.{is_arm, is_executable}
 use Rattle.layout_rules.specs.StatementTrees.{IsTree}
-use Rattle.f77_subs.specs.Units.{is_end, stand_in, standing_in, unit_at}
-use Rattle.f77_subs.specs.Widths.{is_kept}
-use Rattle.f77_subs.specs.Copies.{Context, changes}
-use Rattle.f77_subs.specs.ListedCopies.{piece_at}
-use Rattle.f77_subs.specs.OpenBlocks.{IsEnded}
+use Rattle.program_units.specs.Units.{is_end, stand_in, standing_in, unit_at}
+use Rattle.program_units.specs.Widths.{is_kept}
+use Rattle.program_units.specs.Copies.{Context, changes}
+use Rattle.program_units.specs.ListedCopies.{piece_at}
+use Rattle.program_units.specs.OpenBlocks.{IsEnded}
 use Rattle.copied_control.specs.Landings.{landing, landing_after}
-use Rattle.f77_subs.proofs.BlockRoles.{unkept_is_end}
-use Rattle.f77_subs.proofs.Having.{alike, got}
+use Rattle.unit_laws.proofs.BlockRoles.{unkept_is_end}
+use Rattle.unit_laws.proofs.Having.{alike, got}
 use Rattle.copied_control.proofs.MappedArms.{first_here, rest_here}
 use Rattle.copied_control.proofs.MappedLandings.{landings-mapped, met-is}
 use Rattle.copied_control.proofs.WhichPieces.{IsPlain, Which, left_out, calling, single, which, nothing_stands, plain-piece}

@@ -4,8 +4,8 @@ use Rattle.std.specs.List.{slice_get}
 use Rattle.f77_tree.specs.declared.statements.Labelled.{Labelled}
 use Rattle.layout_rules.specs.Executables.{exit_after, exit_among, exit_of, first_of, increments_at, is_do_to, loops_to, own_executables}
 use Rattle.layout_rules.specs.Labels.{statement_of}
-use Rattle.f77_subs.specs.Units.{standing_in, unit_at}
-use Rattle.f77_subs.specs.Copies.{Context, call_at, changes, end_by, number_at}
+use Rattle.program_units.specs.Units.{standing_in, unit_at}
+use Rattle.program_units.specs.Copies.{Context, call_at, changes, end_by, number_at}
 use Rattle.called_runs.specs.CopiedPositions.{Stands, first_increment, last_place, standing}
 use Rattle.called_runs.proofs.ControlRoles.{stand-role}
 use Rattle.called_runs.proofs.Grounds.{AreLaid, IsCopied}

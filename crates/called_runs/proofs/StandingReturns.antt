@@ -8,14 +8,14 @@ use Rattle.f77_tree.specs.declared.statements.Stmt.{Stmt}
 use Rattle.f77_tree.specs.declared.statements.Stmt.TheVariants.{Continue, BlockIf, EndIf, End}
 use Rattle.layout_rules.specs.Executables.{beyond, first_of, is_else_at, labelled, met, own_executables, when_false}
 use Rattle.layout_rules.specs.Labels.{is_arm, is_executable, statement_of}
-use Rattle.f77_subs.specs.Units.{Call, call_in, guard_of, is_end, unit_at, unit_of}
-use Rattle.f77_subs.specs.Entities.{stands_for}
-use Rattle.f77_subs.specs.Widths.{body_labels, body_width, is_kept, labels}
-use Rattle.f77_subs.specs.Copies.{Context, around, bare, changed, changes, copy, number_at}
-use Rattle.f77_subs.specs.ListedCopies.{HasAt, IsClosedAt, called_context, closing, piece_at}
-use Rattle.f77_subs.proofs.BlockRoles.{unkept_end_kept}
-use Rattle.f77_subs.proofs.CopyWidths.{copy_length}
-use Rattle.f77_subs.proofs.Having.{got}
+use Rattle.program_units.specs.Units.{Call, call_in, guard_of, is_end, unit_at, unit_of}
+use Rattle.program_units.specs.Entities.{stands_for}
+use Rattle.program_units.specs.Widths.{body_labels, body_width, is_kept, labels}
+use Rattle.program_units.specs.Copies.{Context, around, bare, changed, changes, copy, number_at}
+use Rattle.program_units.specs.ListedCopies.{HasAt, IsClosedAt, called_context, closing, piece_at}
+use Rattle.unit_laws.proofs.BlockRoles.{unkept_end_kept}
+use Rattle.unit_laws.proofs.CopyWidths.{copy_length}
+use Rattle.unit_laws.proofs.Having.{got}
 use Rattle.copied_control.proofs.LabelPlaces.{closed-leads, last-leads}
 use Rattle.copied_control.proofs.MappedArms.{inserted-ends}
 use Rattle.copied_control.proofs.WhichPieces.{nothing_stands, piece-around}

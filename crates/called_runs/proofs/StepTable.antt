@@ -5,13 +5,13 @@ use Rattle.f77_tree.specs.declared.statements.Labelled.{Labelled}
 use Rattle.f77_tree.specs.declared.statements.RawExpr.{RawExpr}
 use Rattle.f77_tree.specs.Run.{State}
 use Rattle.layout_rules.specs.Executables.{first_of, own_executables}
-use Rattle.f77_subs.specs.declared.entity.Entity.{Entity}
-use Rattle.f77_subs.specs.Calls.{CallState}
-use Rattle.f77_subs.specs.Contexts.{IsReached}
-use Rattle.f77_subs.specs.Copies.{Context}
-use Rattle.f77_subs.specs.Expansion.{whole_list}
-use Rattle.f77_subs.specs.Units.{Call, call_in, guard_of, inner, unit_at}
-use Rattle.f77_subs.specs.Widths.{is_kept}
+use Rattle.program_units.specs.declared.entity.Entity.{Entity}
+use Rattle.program_units.specs.Calls.{CallState}
+use Rattle.program_units.specs.Contexts.{IsReached}
+use Rattle.program_units.specs.Copies.{Context}
+use Rattle.program_units.specs.Expansion.{whole_list}
+use Rattle.program_units.specs.Units.{Call, call_in, guard_of, inner, unit_at}
+use Rattle.program_units.specs.Widths.{is_kept}
 use Rattle.called_runs.specs.CopiedPositions.{Stands, at_call, at_copy, at_end, at_guarded, at_increment, at_jump, leaves}
 use Rattle.called_runs.specs.FramesInStep.{AreInStep, inside, inside_at}
 use Rattle.called_runs.proofs.CallRows.{at-call, at-guarded}

@@ -19,13 +19,13 @@ use Rattle.f77_tree.specs.Touched.{SetsCount, SetsStep}
 use Rattle.f77_tree.proofs.Keeping.{outcome-keeps}
 use Rattle.f77_tree.proofs.Outcomes.{outcome-successor}
 use Rattle.f77_tree.proofs.RunInvariants.{goes-memory}
-use Rattle.f77_subs.specs.declared.entity.Entity.{Entity}
-use Rattle.f77_subs.specs.Calls.{CallState, after}
-use Rattle.f77_subs.specs.Contexts.{IsReached}
-use Rattle.f77_subs.specs.Copies.{Context, changes}
-use Rattle.f77_subs.specs.Expansion.{whole_list}
-use Rattle.f77_subs.specs.Layouts.{own_program}
-use Rattle.f77_subs.specs.Units.{unit_at}
+use Rattle.program_units.specs.declared.entity.Entity.{Entity}
+use Rattle.program_units.specs.Calls.{CallState, after}
+use Rattle.program_units.specs.Contexts.{IsReached}
+use Rattle.program_units.specs.Copies.{Context, changes}
+use Rattle.program_units.specs.Expansion.{whole_list}
+use Rattle.program_units.specs.Layouts.{own_program}
+use Rattle.program_units.specs.Units.{unit_at}
 use Rattle.copied_values.specs.SideBySide.{AreSideBySide, GoAlike}
 use Rattle.called_runs.specs.CopiedPositions.{AreCopiedLoops}
 use Rattle.called_runs.specs.FramesInStep.{AreInStep, AreLive, IsInside, frame_in, innermost}

@@ -19,13 +19,13 @@ use Rattle.f77_tree.specs.Places.{same_block}
 use Rattle.layout_rules.specs.Appearances.{appearing}
 use Rattle.layout_rules.specs.Declarations.{all_commons, all_groups, all_inits, groups_of, inits_of, is_array, parts_of}
 use Rattle.layout_rules.specs.Faults.{has_repeat}
-use Rattle.f77_subs.proofs.AcceptedTables.{or-parts}
-use Rattle.f77_subs.proofs.StoredNames.{told-all}
-use Rattle.f77_subs.specs.Entities.{block_list, entity_of}
-use Rattle.f77_subs.specs.Names.{appearing_here, names_of_unit, own_names}
-use Rattle.f77_subs.specs.Refusals.{has_wrong_dummy, is_of_storage, names_of_storage}
-use Rattle.f77_subs.specs.Storage.{IsOfRun}
-use Rattle.f77_subs.specs.Units.{dummies_of, runs, sub_dummies, unit_at}
+use Rattle.unit_laws.proofs.AcceptedTables.{or-parts}
+use Rattle.program_units.proofs.StoredNames.{told-all}
+use Rattle.program_units.specs.Entities.{block_list, entity_of}
+use Rattle.program_units.specs.Names.{appearing_here, names_of_unit, own_names}
+use Rattle.program_units.specs.Refusals.{has_wrong_dummy, is_of_storage, names_of_storage}
+use Rattle.program_units.specs.Storage.{IsOfRun}
+use Rattle.program_units.specs.Units.{dummies_of, runs, sub_dummies, unit_at}
 
 pub there-at : {X : Type 0} (xs : List X) (x : X) → Member xs x → (k : ℕ) × (slice_get xs k ≡ Some x)
 there-at xs x m = let at = at_of xs x m in (at.place, slice_get-get_or xs at.place x at.exists ∙ ap (λ y. Some y) (at.is x))

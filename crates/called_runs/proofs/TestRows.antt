@@ -14,14 +14,14 @@ use Rattle.f77_tree.proofs.RunLaws.{step-running}
 use Rattle.layout_rules.specs.Executables.{beyond, first_of, met, own_kinds, when_false}
 use Rattle.layout_rules.specs.Labels.{is_executable}
 use Rattle.layout_rules.specs.Resolved.{resolved}
-use Rattle.f77_subs.specs.declared.entity.Entity.{Entity}
-use Rattle.f77_subs.specs.Calls.{CallState, Does, after}
-use Rattle.f77_subs.specs.Contexts.{IsReached, called}
-use Rattle.f77_subs.specs.Copies.{Context, bare, changed, changes, number_at}
-use Rattle.f77_subs.specs.Expansion.{whole_list}
-use Rattle.f77_subs.specs.Layouts.{own_program}
-use Rattle.f77_subs.specs.Units.{Call, call_in, guard_of, stand_in, standing_in, unit_at, unit_of}
-use Rattle.f77_subs.specs.Widths.{body_labels}
+use Rattle.program_units.specs.declared.entity.Entity.{Entity}
+use Rattle.program_units.specs.Calls.{CallState, Does, after}
+use Rattle.program_units.specs.Contexts.{IsReached, called}
+use Rattle.program_units.specs.Copies.{Context, bare, changed, changes, number_at}
+use Rattle.program_units.specs.Expansion.{whole_list}
+use Rattle.program_units.specs.Layouts.{own_program}
+use Rattle.program_units.specs.Units.{Call, call_in, guard_of, stand_in, standing_in, unit_at, unit_of}
+use Rattle.program_units.specs.Widths.{body_labels}
 use Rattle.copied_values.specs.SideBySide.{GoAlike}
 use Rattle.called_runs.specs.CopiedKinds.{test_alike}
 use Rattle.called_runs.specs.CopiedPositions.{AreCopiedLoops, Stands, at_guarded, last_place, standing}

@@ -24,15 +24,15 @@ use Rattle.layout_rules.specs.Tables.{has_simple_inner}
 use Rattle.layout_rules.specs.Types.{is_array_in, is_well_kinded}
 use Rattle.copied_values.proofs.SameTrees.{same-dims, same-index, same-kind}
 use Rattle.copied_values.specs.ChangedTables.{IsKnownAs}
-use Rattle.f77_subs.proofs.StoredNames.{told-all}
-use Rattle.f77_subs.specs.Copies.{Context, changes}
-use Rattle.f77_subs.specs.declared.entity.Entity.{Entity}
-use Rattle.f77_subs.specs.Entities.{stands_for}
-use Rattle.f77_subs.specs.Expansion.{declared_in, whole_list}
-use Rattle.f77_subs.specs.ListedCopies.{HasAt, piece_at}
-use Rattle.f77_subs.specs.Names.{appearing_here, name_for, names_of_unit}
-use Rattle.f77_subs.specs.Storage.{IsOfRun}
-use Rattle.f77_subs.specs.Units.{stand_in, standing_in, unit_at}
+use Rattle.program_units.proofs.StoredNames.{told-all}
+use Rattle.program_units.specs.Copies.{Context, changes}
+use Rattle.program_units.specs.declared.entity.Entity.{Entity}
+use Rattle.program_units.specs.Entities.{stands_for}
+use Rattle.program_units.specs.Expansion.{declared_in, whole_list}
+use Rattle.program_units.specs.ListedCopies.{HasAt, piece_at}
+use Rattle.program_units.specs.Names.{appearing_here, name_for, names_of_unit}
+use Rattle.program_units.specs.Storage.{IsOfRun}
+use Rattle.program_units.specs.Units.{stand_in, standing_in, unit_at}
 use Rattle.called_runs.specs.DeclaredNames.{AreDeclaredAlike, IsDeclaredAs}
 use Rattle.called_runs.specs.PairedWords.{IsPlacedAlike, listed_spot}
 use Rattle.called_runs.proofs.KnownNames.{IsInList, in-list}

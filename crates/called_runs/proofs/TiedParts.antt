@@ -9,8 +9,8 @@ use Rattle.f77_tree.specs.declared.statements.Stmt.{Stmt, more_of-Stmt}
 use Rattle.f77_tree.specs.declared.statements.Stmt.TheVariants.{ThenIf', BlockIf, ElseIf}
 use Rattle.layout_rules.specs.Appearances.{appearing, names_in}
 use Rattle.layout_rules.specs.Types.{is_of_kind, is_well_kinded}
-use Rattle.f77_subs.specs.Copies.{Change}
-use Rattle.f77_subs.specs.Units.{guard_of, inner}
+use Rattle.program_units.specs.Copies.{Change}
+use Rattle.program_units.specs.Units.{guard_of, inner}
 use Rattle.copied_values.specs.SideBySide.{AreTied}
 use Rattle.called_runs.specs.CopiedKinds.{condition_of}
 use Rattle.called_runs.proofs.CopiedOutcomes.{IsTiedStatement, IsTiedTest}

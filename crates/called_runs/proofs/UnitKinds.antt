@@ -15,14 +15,14 @@ use Rattle.layout_rules.specs.StatementTrees.{IsTree}
 use Rattle.layout_rules.specs.Tables.{has_simple_inner}
 use Rattle.layout_rules.specs.TypeFaults.{has_wrong_type, implies_twice, is_beside_none, types_twice}
 use Rattle.layout_rules.specs.Types.{is_well_kinded}
-use Rattle.f77_subs.proofs.AcceptedTables.{not-not, or-parts}
-use Rattle.f77_subs.proofs.NoAnswer.{laid, line-none, none-at}
-use Rattle.f77_subs.specs.Contexts.{IsReached, called, main}
-use Rattle.f77_subs.specs.Copies.{Context, changes}
-use Rattle.f77_subs.specs.Entities.{entity_of, stands_for}
-use Rattle.f77_subs.specs.Names.{name_for}
-use Rattle.f77_subs.specs.Refusals.{unit_refusal}
-use Rattle.f77_subs.specs.Units.{stand_in, standing_in, unit_at, unit_of, unit_or_none, units}
+use Rattle.unit_laws.proofs.AcceptedTables.{not-not, or-parts}
+use Rattle.unit_laws.proofs.NoAnswer.{laid, line-none, none-at}
+use Rattle.program_units.specs.Contexts.{IsReached, called, main}
+use Rattle.program_units.specs.Copies.{Context, changes}
+use Rattle.program_units.specs.Entities.{entity_of, stands_for}
+use Rattle.program_units.specs.Names.{name_for}
+use Rattle.program_units.specs.Refusals.{unit_refusal}
+use Rattle.program_units.specs.Units.{stand_in, standing_in, unit_at, unit_of, unit_or_none, units}
 use Rattle.called_runs.proofs.ListedBlocks.{contains-at}
 
 -- a unit with a statement is one of the units

@@ -5,11 +5,11 @@ use Rattle.f77_tree.specs.declared.statements.Labelled.{Labelled}
 use Rattle.f77_tree.specs.Execution.{Memory}
 use Rattle.f77_tree.specs.Value.{word_at}
 use Rattle.layout_rules.specs.Executables.{beyond}
-use Rattle.f77_subs.specs.Calls.{Frame}
-use Rattle.f77_subs.specs.Contexts.{IsReached, called, main}
-use Rattle.f77_subs.specs.Copies.{Context}
-use Rattle.f77_subs.specs.Expansion.{whole_list}
-use Rattle.f77_subs.specs.Units.{unit_at}
+use Rattle.program_units.specs.Calls.{Frame}
+use Rattle.program_units.specs.Contexts.{IsReached, called, main}
+use Rattle.program_units.specs.Copies.{Context}
+use Rattle.program_units.specs.Expansion.{whole_list}
+use Rattle.program_units.specs.Units.{unit_at}
 use Rattle.called_runs.specs.CopiedPositions.{AreCopiedLoops}
 use Rattle.called_runs.specs.FramesInStep.{CountAlike, IsInside, Wait, behind, directly, further, inside, inside_at, nobody}
 

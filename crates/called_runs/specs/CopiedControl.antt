@@ -4,9 +4,9 @@ use Rattle.f77_tree.specs.declared.programs.NameInfo.{NameInfo}
 use Rattle.f77_tree.specs.declared.statements.Labelled.{Labelled}
 use Rattle.f77_tree.specs.declared.statements.RawExpr.{RawExpr}
 use Rattle.layout_rules.specs.Executables.{beyond, first_of, increments, loops_to, own_executables, own_kinds}
-use Rattle.f77_subs.specs.Copies.{Context, changed_stmt, changes}
-use Rattle.f77_subs.specs.Expansion.{whole_list}
-use Rattle.f77_subs.specs.Units.{stand_in, standing_in, unit_at}
+use Rattle.program_units.specs.Copies.{Context, changed_stmt, changes}
+use Rattle.program_units.specs.Expansion.{whole_list}
+use Rattle.program_units.specs.Units.{stand_in, standing_in, unit_at}
 use Rattle.called_runs.specs.CopiedKinds.{ArePairwise, IsCopyOf, condition_of}
 use Rattle.called_runs.specs.CopiedPositions.{AreCopiedLoops, IsDoOf, IsPartOf, Stands, copy_of, first_increment, last_place, standing}
 

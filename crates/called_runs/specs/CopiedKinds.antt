@@ -12,7 +12,7 @@ use Rattle.f77_tree.specs.Kinds.{taken_as}
 use Rattle.layout_rules.specs.Executables.{kind_or_integer}
 use Rattle.layout_rules.specs.Resolved.{access_of, resolved, resolved_item, resolved_step}
 use Rattle.layout_rules.specs.Types.{kind_in}
-use Rattle.f77_subs.specs.Copies.{Change, changed, changed_item, changed_step}
+use Rattle.program_units.specs.Copies.{Change, changed, changed_item, changed_step}
 
 -- the condition of an IF or ELSE IF
 abbrev pub condition_of : Stmt → Option RawExpr

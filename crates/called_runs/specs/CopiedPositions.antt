@@ -5,11 +5,11 @@ use Rattle.f77_tree.specs.declared.statements.RawExpr.{RawExpr}
 use Rattle.f77_tree.specs.declared.statements.Stmt.{Stmt}
 use Rattle.f77_tree.specs.declared.statements.Stmt.TheVariants.{Continue, Stop, Back}
 use Rattle.layout_rules.specs.Executables.{first_of, is_do, is_do_to, labelled, loop_number, loops_to, own_executables}
-use Rattle.f77_subs.specs.Units.{Call, call_in, guard_of, inner, is_end, stand_in, unit_at, unit_of}
-use Rattle.f77_subs.specs.Widths.{body_labels, is_kept}
-use Rattle.f77_subs.specs.Contexts.{IsReached}
-use Rattle.f77_subs.specs.Copies.{Context, bare, changed_stmt, changes, number_at}
-use Rattle.f77_subs.specs.ListedCopies.{called_context, copied_place, lines_before, piece_at}
+use Rattle.program_units.specs.Units.{Call, call_in, guard_of, inner, is_end, stand_in, unit_at, unit_of}
+use Rattle.program_units.specs.Widths.{body_labels, is_kept}
+use Rattle.program_units.specs.Contexts.{IsReached}
+use Rattle.program_units.specs.Copies.{Context, bare, changed_stmt, changes, number_at}
+use Rattle.program_units.specs.ListedCopies.{called_context, copied_place, lines_before, piece_at}
 
 -- STOP and RETURN
 abbrev pub leaves : Stmt → Bool

@@ -2,8 +2,8 @@
 use Rattle.std.specs.Prelude.{◌≡◌, ℕ, List}
 use Rattle.f77_tree.specs.declared.statements.Labelled.{Labelled}
 use Rattle.layout_rules.specs.Declarations.{dims_of, kind_of}
-use Rattle.f77_subs.specs.declared.entity.Entity.{Entity}
-use Rattle.f77_subs.specs.Expansion.{declared_in}
+use Rattle.program_units.specs.declared.entity.Entity.{Entity}
+use Rattle.program_units.specs.Expansion.{declared_in}
 
 -- a name of one unit has the kind and the dimensions of a name of another
 pub record AreDeclaredAlike (u v : List Labelled) (x y : List ℕ) : Type 0 where

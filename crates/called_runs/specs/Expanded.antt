@@ -4,10 +4,10 @@ use Rattle.f77_tree.specs.declared.programs.Program.{Program}
 use Rattle.f77_tree.specs.declared.statements.Labelled.{Labelled}
 use Rattle.layout_rules.specs.Layout.{layout}
 use Rattle.layout_rules.specs.Source.{IsSource}
-use Rattle.f77_subs.specs.Expansion.{whole_list}
-use Rattle.f77_subs.specs.Refusals.{unit_refusal}
-use Rattle.f77_subs.specs.Texts.{IsText}
-use Rattle.f77_subs.specs.Units.{units}
+use Rattle.program_units.specs.Expansion.{whole_list}
+use Rattle.program_units.specs.Refusals.{unit_refusal}
+use Rattle.program_units.specs.Texts.{IsText}
+use Rattle.program_units.specs.Units.{units}
 
 -- nothing refuses the units, and the list can be laid out and is the program p
 pub record IsExpanded (stmts : List Labelled) (checked : Bool) (p : Program) : Type 0 where

@@ -8,12 +8,12 @@ use Rattle.f77_tree.specs.Run.{Running, State}
 use Rattle.f77_tree.specs.Steps.{IsMemoryOf}
 use Rattle.f77_tree.specs.Value.{word_at}
 use Rattle.layout_rules.specs.Executables.{beyond}
-use Rattle.f77_subs.specs.Calls.{CallState, Frame}
-use Rattle.f77_subs.specs.Copies.{Context}
-use Rattle.f77_subs.specs.Expansion.{main_context, whole_list}
-use Rattle.f77_subs.specs.Layouts.{own_program}
-use Rattle.f77_subs.specs.ListedCopies.{called_context, copied_place, lines_before, main_place}
-use Rattle.f77_subs.specs.Units.{Call, call_in, guard_of, unit_at}
+use Rattle.program_units.specs.Calls.{CallState, Frame}
+use Rattle.program_units.specs.Copies.{Context}
+use Rattle.program_units.specs.Expansion.{main_context, whole_list}
+use Rattle.program_units.specs.Layouts.{own_program}
+use Rattle.program_units.specs.ListedCopies.{called_context, copied_place, lines_before, main_place}
+use Rattle.program_units.specs.Units.{Call, call_in, guard_of, unit_at}
 use Rattle.called_runs.specs.CopiedPositions.{AreCopiedLoops, Stands}
 
 -- a frame of a context's unit, whose dummies stand for the context's arguments

@@ -5,11 +5,11 @@ use Rattle.f77_tree.specs.declared.statements.Labelled.{Labelled}
 use Rattle.f77_tree.specs.Declarations.{index_of}
 use Rattle.f77_tree.specs.Value.{place_of, size_of}
 use Rattle.layout_rules.specs.Types.{dims_named}
-use Rattle.f77_subs.specs.Copies.{Change}
-use Rattle.f77_subs.specs.declared.entity.Entity.{Entity}
-use Rattle.f77_subs.specs.Entities.{stands_for}
-use Rattle.f77_subs.specs.Names.{name_for}
-use Rattle.f77_subs.specs.Storage.{Declares, Distance, IsOfRun, IsWordOf, Linked, size_in}
+use Rattle.program_units.specs.Copies.{Change}
+use Rattle.program_units.specs.declared.entity.Entity.{Entity}
+use Rattle.program_units.specs.Entities.{stands_for}
+use Rattle.program_units.specs.Names.{name_for}
+use Rattle.program_units.specs.Storage.{Declares, Distance, IsOfRun, IsWordOf, Linked, size_in}
 
 -- An entity of the run whose name is in the table of the program that the text comes to. (A name that stands as an argument
 -- alone may be missing there.)

@@ -5,10 +5,10 @@ use Rattle.f77_tree.specs.declared.programs.Program.{Program}
 use Rattle.f77_tree.specs.declared.statements.Labelled.{Labelled}
 use Rattle.f77_tree.specs.Run.{State, source}
 use Rattle.f77_tree.specs.Value.{word_at}
-use Rattle.f77_subs.specs.declared.entity.Entity.{Entity}
-use Rattle.f77_subs.specs.Calls.{CallState, RunsAlike, called}
-use Rattle.f77_subs.specs.Storage.{IsStorage, size_in}
-use Rattle.f77_subs.specs.Units.{units}
+use Rattle.program_units.specs.declared.entity.Entity.{Entity}
+use Rattle.program_units.specs.Calls.{CallState, RunsAlike, called}
+use Rattle.program_units.specs.Storage.{IsStorage, size_in}
+use Rattle.program_units.specs.Units.{units}
 use Rattle.called_runs.specs.PairedWords.{IsShown, listed_spot}
 
 -- Wherever the words of locals and blocks lie, over any data: a run of the units and a run of the program write the same, end alike

@@ -11,16 +11,16 @@ ghost use Rattle.layout_rules.specs.Labels.{is_executable};
 ghost use Rattle.layout_rules.specs.Types.{is_well_kinded};
 ghost use Rattle.copied_values.specs.ChangedTables.{AreChangedTables};
 ghost use Rattle.copied_values.specs.SideBySide.{AreTied, IsPairing};
-ghost use Rattle.f77_subs.specs.Contexts.{IsReached};
-ghost use Rattle.f77_subs.specs.Copies.{Context, change_in, changes};
-ghost use Rattle.f77_subs.specs.declared.entity.Entity.{Entity};
-ghost use Rattle.f77_subs.specs.Entities.{stands_for};
-ghost use Rattle.f77_subs.specs.Layouts.{own_program};
-ghost use Rattle.f77_subs.specs.Names.{names_of_unit};
-ghost use Rattle.f77_subs.specs.Refusals.{unit_refusal};
-ghost use Rattle.f77_subs.specs.Storage.{IsOfRun, IsStorage, placed};
-ghost use Rattle.f77_subs.specs.Texts.{IsText};
-ghost use Rattle.f77_subs.specs.Units.{runs, unit_at, units};
+ghost use Rattle.program_units.specs.Contexts.{IsReached};
+ghost use Rattle.program_units.specs.Copies.{Context, change_in, changes};
+ghost use Rattle.program_units.specs.declared.entity.Entity.{Entity};
+ghost use Rattle.program_units.specs.Entities.{stands_for};
+ghost use Rattle.program_units.specs.Layouts.{own_program};
+ghost use Rattle.program_units.specs.Names.{names_of_unit};
+ghost use Rattle.program_units.specs.Refusals.{unit_refusal};
+ghost use Rattle.program_units.specs.Storage.{IsOfRun, IsStorage, placed};
+ghost use Rattle.program_units.specs.Texts.{IsText};
+ghost use Rattle.program_units.specs.Units.{runs, unit_at, units};
 ghost use Rattle.called_runs.specs.Expanded.{IsExpanded};
 ghost use Rattle.called_runs.specs.PairedWords.{IsEntryOf, IsPaired, listed_spot};
 
@@ -30,7 +30,7 @@ use crate::placings::{frames_are_placed, placings_pair_words, programs_place_the
 use copied_control::units_keep_their_control;
 use copied_values::{lists_declare, names_keep_their_declarations, places_decide_no_trees};
 use f77_layout::programs_are_well_formed;
-use f77_subs::{own_names_are_new, units_are_sources};
+use unit_laws::{own_names_are_new, units_are_sources};
 
 /// A context that is reached is of a unit that runs, and each name of its unit stands for an entity of the run.
 pub fn contexts_are_of_the_run()

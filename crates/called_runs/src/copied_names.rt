@@ -2,12 +2,12 @@
 
 ghost use Rattle.std.specs.Prelude.{◌≡◌, Bool, ℕ, List, None};
 ghost use Rattle.f77_tree.specs.declared.statements.Labelled.{Labelled};
-ghost use Rattle.f77_subs.specs.Contexts.{IsReached};
-ghost use Rattle.f77_subs.specs.Copies.{Context};
+ghost use Rattle.program_units.specs.Contexts.{IsReached};
+ghost use Rattle.program_units.specs.Copies.{Context};
 ghost use Rattle.called_runs.specs.DeclaredNames.{AreDeclaredAlike, IsDeclaredAs};
-ghost use Rattle.f77_subs.specs.Entities.{stands_for};
-ghost use Rattle.f77_subs.specs.Refusals.{unit_refusal};
-ghost use Rattle.f77_subs.specs.Units.{standing_in, unit_at, units};
+ghost use Rattle.program_units.specs.Entities.{stands_for};
+ghost use Rattle.program_units.specs.Refusals.{unit_refusal};
+ghost use Rattle.program_units.specs.Units.{standing_in, unit_at, units};
 
 /// In a copy each name has the kind and the dimensions of the entity that it stands for: arguments are as the dummies are, and
 /// a block is in each unit as in the first one that has it.

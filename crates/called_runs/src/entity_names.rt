@@ -4,19 +4,19 @@ ghost use Rattle.std.specs.Prelude.{◌≡◌, Bool, ℕ, List, None, Option, So
 ghost use Rattle.f77_tree.specs.declared.statements.Labelled.{Labelled};
 ghost use Rattle.layout_rules.specs.Declarations.{dims_of, kind_of};
 ghost use Rattle.layout_rules.specs.Executables.{kind_or_integer};
-ghost use Rattle.f77_subs.specs.declared.entity.Entity.{Entity};
-ghost use Rattle.f77_subs.specs.declared.entity.Entity.TheVariants.{InBlock};
-ghost use Rattle.f77_subs.specs.Entities.{block_list, entity_of};
-ghost use Rattle.f77_subs.specs.Expansion.{declared_in, whole_list};
-ghost use Rattle.f77_subs.specs.Names.{name_for};
-ghost use Rattle.f77_subs.specs.Refusals.{unit_refusal};
-ghost use Rattle.f77_subs.specs.Storage.{IsOfRun};
-ghost use Rattle.f77_subs.specs.Texts.{IsText};
-ghost use Rattle.f77_subs.specs.Units.{unit_at, units};
+ghost use Rattle.program_units.specs.declared.entity.Entity.{Entity};
+ghost use Rattle.program_units.specs.declared.entity.Entity.TheVariants.{InBlock};
+ghost use Rattle.program_units.specs.Entities.{block_list, entity_of};
+ghost use Rattle.program_units.specs.Expansion.{declared_in, whole_list};
+ghost use Rattle.program_units.specs.Names.{name_for};
+ghost use Rattle.program_units.specs.Refusals.{unit_refusal};
+ghost use Rattle.program_units.specs.Storage.{IsOfRun};
+ghost use Rattle.program_units.specs.Texts.{IsText};
+ghost use Rattle.program_units.specs.Units.{unit_at, units};
 
 use copied_values::{lists_declare, names_keep_their_declarations};
 use f77_layout::programs_are_well_formed;
-use f77_subs::{
+use unit_laws::{
     names_of_texts_are_short, own_names_are_new, short_names_are_new, units_are_sources,
 };
 

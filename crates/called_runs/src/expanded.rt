@@ -5,8 +5,8 @@ ghost use Rattle.f77_tree.specs.declared.programs.Program.{Program};
 ghost use Rattle.f77_tree.specs.declared.statements.Labelled.{Labelled};
 ghost use Rattle.layout_rules.specs.Layout.{layout};
 ghost use Rattle.layout_rules.specs.Source.{IsSource};
-ghost use Rattle.f77_subs.specs.Refusals.{expansion};
-ghost use Rattle.f77_subs.specs.Texts.{IsText};
+ghost use Rattle.program_units.specs.Refusals.{expansion};
+ghost use Rattle.program_units.specs.Texts.{IsText};
 ghost use Rattle.called_runs.specs.Expanded.{IsExpanded};
 
 /// A text that expands to a list which can be laid out, and is then this program, is expanded to the program: nothing refuses its

@@ -1,4 +1,4 @@
-//! A text with subroutines runs as the one program that it comes to: laws over the definitions of `f77_subs`. No code of the compiler is
+//! A text with subroutines runs as the one program that it comes to: laws over the definitions of `program_units`. No code of the compiler is
 //! here.
 #![tactic(auto)]
 

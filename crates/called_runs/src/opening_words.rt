@@ -3,9 +3,9 @@
 ghost use Rattle.std.specs.Prelude.{◌≡◌, ◌<◌, Bool, ℕ, ℤ, List, length, slice_get};
 ghost use Rattle.f77_tree.specs.declared.programs.Program.{Program};
 ghost use Rattle.f77_tree.specs.declared.statements.Labelled.{Labelled};
-ghost use Rattle.f77_subs.specs.declared.entity.Entity.{Entity};
-ghost use Rattle.f77_subs.specs.Storage.{IsStorage};
-ghost use Rattle.f77_subs.specs.Units.{units};
+ghost use Rattle.program_units.specs.declared.entity.Entity.{Entity};
+ghost use Rattle.program_units.specs.Storage.{IsStorage};
+ghost use Rattle.program_units.specs.Units.{units};
 ghost use Rattle.called_runs.specs.Expanded.{IsExpanded};
 ghost use Rattle.called_runs.specs.PairedWords.{IsPaired, listed_spot};
 
@@ -15,7 +15,7 @@ use crate::listed_storage::lists_share_storage;
 use crate::placings::{placings_pair_words, programs_place_their_entities};
 use copied_values::{lists_declare, places_decide_no_trees};
 use f77_layout::programs_are_well_formed;
-use f77_subs::{own_names_are_new, units_are_sources};
+use unit_laws::{own_names_are_new, units_are_sources};
 
 /// The words of a storage begin as the paired words of the program that the text comes to do, and there is room for both.
 pub fn opening_words_are_initial()

@@ -6,21 +6,21 @@ ghost use Rattle.f77_tree.specs.declared.programs.Program.{Program};
 ghost use Rattle.f77_tree.specs.declared.statements.Labelled.{Labelled};
 ghost use Rattle.f77_tree.specs.Declarations.{index_of};
 ghost use Rattle.f77_tree.specs.Value.{ArePlaced, place_of};
-ghost use Rattle.f77_subs.specs.Copies.{Change};
-ghost use Rattle.f77_subs.specs.declared.entity.Entity.{Entity};
-ghost use Rattle.f77_subs.specs.Entities.{stands_for};
+ghost use Rattle.program_units.specs.Copies.{Change};
+ghost use Rattle.program_units.specs.declared.entity.Entity.{Entity};
+ghost use Rattle.program_units.specs.Entities.{stands_for};
 ghost use Rattle.called_runs.specs.Expanded.{IsExpanded};
 ghost use Rattle.called_runs.specs.PairedWords.{IsEntryOf, IsPaired, IsPlacedAlike, IsPlacing, listed_spot};
 ghost use Rattle.copied_values.specs.SideBySide.{ArePaired, IsPairing};
-ghost use Rattle.f77_subs.specs.Storage.{IsStorage, placed};
-ghost use Rattle.f77_subs.specs.Units.{units};
+ghost use Rattle.program_units.specs.Storage.{IsStorage, placed};
+ghost use Rattle.program_units.specs.Units.{units};
 
 use crate::copied_names::copied_names_are_declared_alike;
 use crate::entity_names::{entities_keep_their_declarations, names_of_blocks_stand_once};
 use crate::listed_storage::lists_share_storage;
 use copied_values::{lists_declare, places_decide_no_trees};
 use f77_layout::{names_that_share_words_are_linked, programs_are_well_formed};
-use f77_subs::own_names_are_new;
+use unit_laws::own_names_are_new;
 
 /// Two placings of the entities of a text that obey its declarations pair their words, each with one other: the words of an
 /// entity in one are its words in the other. The places of a storage are such a placing, and the table of a frame has the

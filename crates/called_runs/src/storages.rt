@@ -3,7 +3,7 @@
 ghost use Rattle.std.specs.Prelude.{Bool, List};
 ghost use Rattle.f77_tree.specs.declared.programs.Program.{Program};
 ghost use Rattle.f77_tree.specs.declared.statements.Labelled.{Labelled};
-ghost use Rattle.f77_subs.specs.Units.{units};
+ghost use Rattle.program_units.specs.Units.{units};
 ghost use Rattle.called_runs.specs.Expanded.{IsExpanded};
 ghost use Rattle.called_runs.specs.SpareWords.{HasStorage};
 
@@ -13,7 +13,7 @@ use crate::listed_storage::lists_share_storage;
 use crate::placings::programs_place_their_entities;
 use copied_values::{lists_declare, places_decide_no_trees};
 use f77_layout::{names_that_share_words_are_linked, programs_are_well_formed};
-use f77_subs::{own_names_are_new, units_are_sources};
+use unit_laws::{own_names_are_new, units_are_sources};
 
 /// A text that comes to a program has a storage: the words of the program, and behind them room for a word for each name that there
 /// can be, since the program may lack a name that stands as an argument alone.

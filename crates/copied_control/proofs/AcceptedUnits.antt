@@ -4,21 +4,21 @@ use Rattle.std.specs.List.{slice_get, range_with_len}
 use Rattle.f77_tree.specs.declared.statements.Labelled.{Labelled}
 use Rattle.layout_rules.specs.Faults.{first_answer}
 use Rattle.layout_rules.specs.Layout.{refusal}
-use Rattle.f77_subs.specs.declared.sub_end.SubEnd.TheVariants.{Recursion}
-use Rattle.f77_subs.specs.Contexts.{IsInPlace, IsReached}
-use Rattle.f77_subs.specs.Copies.{Context}
-use Rattle.f77_subs.specs.CopiedLoops.{HasEndOf, HaveEnds}
-use Rattle.f77_subs.specs.Heights.{NoneCallsItself}
-use Rattle.f77_subs.specs.OpenBlocks.{AreClosedUnits, IsEnded, are_closed}
-use Rattle.f77_subs.specs.Refusals.{end_at, recursion, unit_refusal, unit_refusals}
-use Rattle.f77_subs.specs.Texts.{IsText}
-use Rattle.f77_subs.specs.Units.{reaches, standing_in, unit_at, unit_or_none, units}
+use Rattle.program_units.specs.declared.sub_end.SubEnd.TheVariants.{Recursion}
+use Rattle.program_units.specs.Contexts.{IsInPlace, IsReached}
+use Rattle.program_units.specs.Copies.{Context}
+use Rattle.program_units.specs.CopiedLoops.{HasEndOf, HaveEnds}
+use Rattle.program_units.specs.Heights.{NoneCallsItself}
+use Rattle.program_units.specs.OpenBlocks.{AreClosedUnits, IsEnded, are_closed}
+use Rattle.program_units.specs.Refusals.{end_at, recursion, unit_refusal, unit_refusals}
+use Rattle.program_units.specs.Texts.{IsText}
+use Rattle.program_units.specs.Units.{reaches, standing_in, unit_at, unit_or_none, units}
 use Rattle.copied_control.proofs.ClosedUnits.{accepted-closed}
-use Rattle.f77_subs.proofs.NoAnswer.{each-none, in-range, laid, no-end, no-line, none-at}
-use Rattle.f77_subs.proofs.PositiveLabels.{do-label}
+use Rattle.unit_laws.proofs.NoAnswer.{each-none, in-range, laid, no-end, no-line, none-at}
+use Rattle.unit_laws.proofs.PositiveLabels.{do-label}
 use Rattle.copied_control.proofs.RangeEnds.{has-end}
 use Rattle.copied_control.proofs.ReachedContexts.{in-place}
-use Rattle.f77_subs.proofs.UnitSources.{IsUnit, text-unit}
+use Rattle.unit_laws.proofs.UnitSources.{IsUnit, text-unit}
 use Rattle.std.proofs.Common.{arith}
 
 -- ---- units of an accepted text

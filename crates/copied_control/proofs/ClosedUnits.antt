@@ -11,10 +11,10 @@ use Rattle.layout_rules.specs.Nesting.{open_after, first_unnested}
 use Rattle.layout_rules.specs.declared.layout_end.LayoutEnd.TheVariants.{BadNesting}
 use Rattle.layout_rules.specs.declared.nesting.Opened.{Opened}
 use Rattle.layout_rules.proofs.OpenWalks.{goes_on, nothing-at-end, blocks_in, one_if, after-blocks, heads-block, begins-no_end}
-use Rattle.f77_subs.specs.Units.{is_end, stand_in, standing_in}
-use Rattle.f77_subs.specs.OpenBlocks.{are_closed, IsEnded}
-use Rattle.f77_subs.proofs.BlockRoles.{Alike}
-use Rattle.f77_subs.proofs.NoAnswer.{line-none, none-at}
+use Rattle.program_units.specs.Units.{is_end, stand_in, standing_in}
+use Rattle.program_units.specs.OpenBlocks.{are_closed, IsEnded}
+use Rattle.unit_laws.proofs.BlockRoles.{Alike}
+use Rattle.unit_laws.proofs.NoAnswer.{line-none, none-at}
 use Rattle.copied_control.proofs.SealedCopies.{turned, turned-alike}
 
 -- the statement that stands in for this one

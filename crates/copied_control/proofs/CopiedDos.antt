@@ -5,9 +5,9 @@ use Rattle.f77_tree.specs.declared.statements.Stmt.{Stmt, more_of-Stmt}
 use Rattle.f77_tree.specs.declared.statements.Stmt.TheVariants.{Program, Implicit, ImplicitNone, TypeOf, Dimension, Common, Equivalence, Init, Assign, Print, Take, Continue, Stop, GoTo, PickGoTo, SignIf, ThenIf', BlockIf, ElseIf, Else, EndIf, Do, Sub, CallTo, Back, End}
 use Rattle.layout_rules.specs.Executables.{is_do_to}
 use Rattle.layout_rules.specs.Labels.{is_executable}
-use Rattle.f77_subs.specs.Units.{Call, call_in}
-use Rattle.f77_subs.specs.Widths.{is_kept}
-use Rattle.f77_subs.specs.Copies.{Change, changed_stmt}
+use Rattle.program_units.specs.Units.{Call, call_in}
+use Rattle.program_units.specs.Widths.{is_kept}
+use Rattle.program_units.specs.Copies.{Change, changed_stmt}
 use Rattle.std.proofs.Common.{arith}
 
 -- the DO whose copy this is

@@ -9,18 +9,18 @@ use Rattle.f77_tree.specs.declared.statements.RawExpr.{RawExpr}
 use Rattle.f77_tree.specs.declared.statements.Stmt.TheVariants.{Continue, EndIf}
 use Rattle.layout_rules.specs.Executables.{is_do_to}
 use Rattle.layout_rules.specs.Labels.{statement_of}
-use Rattle.f77_subs.specs.Units.{Call, call_in, guard_of, unit_at, unit_of}
-use Rattle.f77_subs.specs.declared.entity.Entity.{Entity}
-use Rattle.f77_subs.specs.Entities.{stands_for}
-use Rattle.f77_subs.specs.Widths.{is_kept, width, body_width, labels, body_labels, labels_before}
-use Rattle.f77_subs.specs.Copies.{Change, Context, bare, changes, changed_stmt, call_at, end_by, around, number_at, piece, pieces, copy}
-use Rattle.f77_subs.specs.CopiedLoops.{loop_if, loops_from, loops_of_pieces, HaveEnds, HasItsLoops}
-use Rattle.f77_subs.specs.ListedCopies.{piece_at, called_context, copied_place, lines_before}
+use Rattle.program_units.specs.Units.{Call, call_in, guard_of, unit_at, unit_of}
+use Rattle.program_units.specs.declared.entity.Entity.{Entity}
+use Rattle.program_units.specs.Entities.{stands_for}
+use Rattle.program_units.specs.Widths.{is_kept, width, body_width, labels, body_labels, labels_before}
+use Rattle.program_units.specs.Copies.{Change, Context, bare, changes, changed_stmt, call_at, end_by, around, number_at, piece, pieces, copy}
+use Rattle.program_units.specs.CopiedLoops.{loop_if, loops_from, loops_of_pieces, HaveEnds, HasItsLoops}
+use Rattle.program_units.specs.ListedCopies.{piece_at, called_context, copied_place, lines_before}
 use Rattle.copied_control.proofs.CopiedDos.{do-of}
-use Rattle.f77_subs.proofs.Having.{sum-next}
+use Rattle.unit_laws.proofs.Having.{sum-next}
 use Rattle.copied_control.proofs.LoopLists.{loops-append}
-use Rattle.f77_subs.proofs.CopyWidths.{piece_length, copy_length}
-use Rattle.f77_subs.proofs.PieceLabels.{number-apart, number-above, number-within}
+use Rattle.unit_laws.proofs.CopyWidths.{piece_length, copy_length}
+use Rattle.unit_laws.proofs.PieceLabels.{number-apart, number-above, number-within}
 use Rattle.copied_control.proofs.WhichPieces.{Which, left_out, calling, single, which, plain-piece, nothing_stands, piece-around, call-count}
 
 around-loops : (m : ℕ) (x : Change) (a b line : ℕ) (guard : Option RawExpr) (inside : List Labelled) (place : ℕ) → loops_from m (around x a b line guard inside) place ≡ loops_from m inside (place + lines_before guard)

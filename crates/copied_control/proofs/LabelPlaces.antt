@@ -7,12 +7,12 @@ use Rattle.f77_tree.specs.declared.statements.Labelled.{Labelled}
 use Rattle.f77_tree.specs.declared.statements.RawExpr.{RawExpr}
 use Rattle.f77_tree.specs.declared.statements.Stmt.TheVariants.{Continue, BlockIf, EndIf}
 use Rattle.layout_rules.specs.Labels.{statement_of}
-use Rattle.f77_subs.specs.Units.{Call, call_in, guard_of, unit_at, unit_of}
-use Rattle.f77_subs.specs.Entities.{stands_for}
-use Rattle.f77_subs.specs.Widths.{labels_by, labels, body_labels, labels_written}
-use Rattle.f77_subs.specs.Copies.{Change, Context, bare, changes, changed, changed_stmt, around, number_at, copy}
-use Rattle.f77_subs.specs.ListedCopies.{HasAt, StandsIn, IsClosedAt, piece_at, closing}
-use Rattle.f77_subs.proofs.Having.{alike, got, has_second}
+use Rattle.program_units.specs.Units.{Call, call_in, guard_of, unit_at, unit_of}
+use Rattle.program_units.specs.Entities.{stands_for}
+use Rattle.program_units.specs.Widths.{labels_by, labels, body_labels, labels_written}
+use Rattle.program_units.specs.Copies.{Change, Context, bare, changes, changed, changed_stmt, around, number_at, copy}
+use Rattle.program_units.specs.ListedCopies.{HasAt, StandsIn, IsClosedAt, piece_at, closing}
+use Rattle.unit_laws.proofs.Having.{alike, got, has_second}
 use Rattle.copied_control.proofs.WhichPieces.{IsPlain, Which, left_out, calling, single, which, plain-piece, piece-around}
 use Rattle.std.proofs.lemmas.Grind.{elements}
 

@@ -3,7 +3,7 @@ use Rattle.std.proofs.Common.{◌≡◌, ℕ, suc, ◌+◌, Bool, true, false, L
 use Rattle.std.specs.List.{slice_get, range_with_len}
 use Rattle.f77_tree.specs.declared.statements.Labelled.{Labelled}
 use Rattle.layout_rules.specs.Executables.{is_do_to, is_do_in, loops_to}
-use Rattle.f77_subs.specs.CopiedLoops.{loop_if, loops_from}
+use Rattle.program_units.specs.CopiedLoops.{loop_if, loops_from}
 use Rattle.copied_control.proofs.MappedArms.{first_here, rest_here}
 
 loop-if-append : (b : Bool) (place : ℕ) (xs ys all : List ℕ) → all ≡ xs ++ ys → loop_if b place all ≡ loop_if b place xs ++ ys

@@ -8,19 +8,19 @@ use Rattle.f77_tree.specs.declared.statements.Labelled.{Labelled}
 use Rattle.layout_rules.specs.Executables.{is_do_to, loops_to}
 use Rattle.layout_rules.specs.Labels.{statement_of, is_executable}
 use Rattle.layout_rules.specs.Order.{rank}
-use Rattle.f77_subs.specs.Units.{Call, call_in, unit_at, unit_of}
-use Rattle.f77_subs.specs.Widths.{width, body_width, labels, body_labels, labels_before}
-use Rattle.f77_subs.specs.Copies.{Context, changes, changed_stmt, number_at}
-use Rattle.f77_subs.specs.CopiedLoops.{loop_if, loops_from, loops_of_pieces, last_number, IsEndOf, HaveEnds, HasItsLoops}
-use Rattle.f77_subs.specs.Expansion.{put_in, declared_first, main_context, main_pieces, whole_list}
-use Rattle.f77_subs.specs.ListedCopies.{piece_at, main_place}
+use Rattle.program_units.specs.Units.{Call, call_in, unit_at, unit_of}
+use Rattle.program_units.specs.Widths.{width, body_width, labels, body_labels, labels_before}
+use Rattle.program_units.specs.Copies.{Context, changes, changed_stmt, number_at}
+use Rattle.program_units.specs.CopiedLoops.{loop_if, loops_from, loops_of_pieces, last_number, IsEndOf, HaveEnds, HasItsLoops}
+use Rattle.program_units.specs.Expansion.{merged, declared_first, main_context, main_pieces, whole_list}
+use Rattle.program_units.specs.ListedCopies.{piece_at, main_place}
 use Rattle.copied_control.proofs.CopiedDos.{do-of, do-copied, left-out-no-do, call-no-do, declared-no-do}
 use Rattle.copied_control.proofs.CopiedLoops.{ArePlaced, pieces-loops, none-of-pieces, Ends, ends-at, last-count, IsAway, piece-away, call-away, outside}
-use Rattle.f77_subs.proofs.Having.{get-drop}
+use Rattle.unit_laws.proofs.Having.{get-drop}
 use Rattle.copied_control.proofs.LoopLists.{loops-append, loops-are}
-use Rattle.f77_subs.proofs.PieceLabels.{number-apart, number-above, number-within}
+use Rattle.unit_laws.proofs.PieceLabels.{number-apart, number-above, number-within}
 use Rattle.copied_control.proofs.PiecesInLists.{Stretch, before}
-use Rattle.f77_subs.proofs.PutInDeclared.{put-in-declared}
+use Rattle.unit_laws.proofs.MergedDeclared.{merged-declared}
 use Rattle.copied_control.proofs.StandingCopies.{place-early, early-long}
 use Rattle.copied_control.proofs.WhichPieces.{Which, left_out, calling, single, which, plain-piece, nothing_stands, call-count}
 
@@ -230,7 +230,7 @@ all-main-loops us m =
           let short = ap (λ (xs : List Labelled). sum_by wide xs) (take-take j p main (omega (arith, below))) in
           ap at (let e : 0 + j ≡ j = omega arith in e) ∙ (let e : at j ≡ 0 + sum_by wide (take j (take p main)) = omega (arith, there, short) in e);
     } in
-    let start = 0 + length (early ++ put_in us) in
+    let start = 0 + length (early ++ merged us) in
     let backs : ArePlaced us c at (drop p main) p start = record {
       stands = λ j s is. sym (get-drop main p j) ∙ is;
       begins = λ j s is.
@@ -238,14 +238,14 @@ all-main-loops us m =
           let there = place-early us (p + j) false (le-ltb (p + j) p (let e : p ≤ p + j = omega arith in e)) in
           let sums = before us (whole_list us) c (drop p main) p start stretch wide j s is in
           let long = early-long us in
-          let both = length-append early (put_in us) in
+          let both = length-append early (merged us) in
           omega (arith, there, sums, long, both);
     } in
     let one : loops_from m early 0 ≡ loops_of_pieces us c at m (take p main) 0 = pieces-loops us c at m (take p main) 0 0 0 refl fronts in
     let two : loops_from m late start ≡ loops_of_pieces us c at m (drop p main) p = pieces-loops us c at m (drop p main) p start later refl backs in
     let long : 0 + length (take p main) ≡ p = (let e = length-take-le p main few in omega (arith, e)) in
-    loops-append m (early ++ put_in us) late 0
-    ∙ ap (λ (xs : List ℕ). xs ++ loops_from m late start) (loops-append m early (put_in us) 0 ∙ ap (λ (xs : List ℕ). loops_from m early 0 ++ xs) (declared-none m (put_in us) (0 + length early) (put-in-declared us)) ∙ append-nil (loops_from m early 0) ∙ one)
+    loops-append m (early ++ merged us) late 0
+    ∙ ap (λ (xs : List ℕ). xs ++ loops_from m late start) (loops-append m early (merged us) 0 ∙ ap (λ (xs : List ℕ). loops_from m early 0 ++ xs) (declared-none m (merged us) (0 + length early) (merged-declared us)) ∙ append-nil (loops_from m early 0) ∙ one)
     ∙ ap (λ (xs : List ℕ). loops_of_pieces us c at m (take p main) 0 ++ xs) (two ∙ ap (λ (k : ℕ). loops_of_pieces us c at m (drop p main) k) (sym long))
     ∙ sym (of-pieces-append us c at m (take p main) (drop p main) 0)
     ∙ ap (λ (xs : List Labelled). loops_of_pieces us c at m xs 0) (take-append-drop p main)

@@ -9,15 +9,15 @@ use Rattle.f77_tree.specs.declared.statements.Stmt.{Stmt}
 use Rattle.f77_tree.specs.declared.statements.Stmt.TheVariants.{Continue, BlockIf}
 use Rattle.layout_rules.specs.Labels.{is_executable, is_arm}
 use Rattle.layout_rules.specs.Jumps.{is_block_if, is_end_if, end_after, end_of_arm, end_of_block}
-use Rattle.f77_subs.specs.Units.{Call, call_in, guard_of, unit_at, unit_of}
-use Rattle.f77_subs.specs.Entities.{stands_for}
-use Rattle.f77_subs.specs.Widths.{body_width, body_labels}
-use Rattle.f77_subs.specs.Copies.{Context, bare, changes, changed, changed_stmt, around, number_at, copy}
-use Rattle.f77_subs.specs.ListedCopies.{StandsIn, piece_at, closing}
-use Rattle.f77_subs.specs.OpenBlocks.{are_closed, AreClosedUnits}
-use Rattle.f77_subs.proofs.BlockRoles.{Alike, IsNeutral, changed-alike, does_nothing, unkept_neutral, call_neutral, arm-no-end}
-use Rattle.f77_subs.proofs.CopyWidths.{copy_length}
-use Rattle.f77_subs.proofs.Having.{alike, has_second}
+use Rattle.program_units.specs.Units.{Call, call_in, guard_of, unit_at, unit_of}
+use Rattle.program_units.specs.Entities.{stands_for}
+use Rattle.program_units.specs.Widths.{body_width, body_labels}
+use Rattle.program_units.specs.Copies.{Context, bare, changes, changed, changed_stmt, around, number_at, copy}
+use Rattle.program_units.specs.ListedCopies.{StandsIn, piece_at, closing}
+use Rattle.program_units.specs.OpenBlocks.{are_closed, AreClosedUnits}
+use Rattle.unit_laws.proofs.BlockRoles.{Alike, IsNeutral, changed-alike, does_nothing, unkept_neutral, call_neutral, arm-no-end}
+use Rattle.unit_laws.proofs.CopyWidths.{copy_length}
+use Rattle.unit_laws.proofs.Having.{alike, has_second}
 use Rattle.copied_control.proofs.SealedCopies.{turned, turned-neutral, gone, and_none, passed-over, copy-closed, call-closed}
 use Rattle.copied_control.proofs.WhichPieces.{IsPlain, Which, left_out, calling, single, which, plain-piece, nothing_stands, piece-around}
 

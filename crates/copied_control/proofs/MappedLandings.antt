@@ -9,14 +9,14 @@ use Rattle.f77_tree.specs.declared.statements.RawExpr.{RawExpr}
 use Rattle.layout_rules.specs.Labels.{is_executable, is_arm}
 use Rattle.layout_rules.specs.Jumps.{is_block_if, end_of_block}
 use Rattle.layout_rules.specs.Executables.{first_of, met, met_after}
-use Rattle.f77_subs.specs.Units.{Call, call_in, is_end, unit_at}
-use Rattle.f77_subs.specs.Widths.{is_kept}
-use Rattle.f77_subs.specs.Copies.{Change, Context, bare, changes, changed_stmt, around}
+use Rattle.program_units.specs.Units.{Call, call_in, is_end, unit_at}
+use Rattle.program_units.specs.Widths.{is_kept}
+use Rattle.program_units.specs.Copies.{Change, Context, bare, changes, changed_stmt, around}
 use Rattle.copied_control.specs.Landings.{landing, landing_after}
-use Rattle.f77_subs.specs.ListedCopies.{StandsIn, piece_at, closing}
-use Rattle.f77_subs.specs.OpenBlocks.{AreClosedUnits, IsEnded}
-use Rattle.f77_subs.proofs.BlockRoles.{changed-alike, does_nothing, unkept_is_end, unkept_end_kept, end-no-arm, end-does, call_neutral}
-use Rattle.f77_subs.proofs.Having.{alike}
+use Rattle.program_units.specs.ListedCopies.{StandsIn, piece_at, closing}
+use Rattle.program_units.specs.OpenBlocks.{AreClosedUnits, IsEnded}
+use Rattle.unit_laws.proofs.BlockRoles.{changed-alike, does_nothing, unkept_is_end, unkept_end_kept, end-no-arm, end-does, call_neutral}
+use Rattle.unit_laws.proofs.Having.{alike}
 use Rattle.copied_control.proofs.MappedArms.{first_here, rest_here, plain-stands, blocks-mapped}
 use Rattle.copied_control.proofs.WhichPieces.{IsPlain, Which, left_out, calling, single, which, nothing_stands, piece-around}
 

@@ -4,12 +4,12 @@ use Rattle.std.specs.List.{slice_get}
 use Rattle.std.proofs.lemmas.List.{append_assoc}
 use Rattle.std.proofs.lemmas.List.Sums.{sum_by-cons}
 use Rattle.f77_tree.specs.declared.statements.Labelled.{Labelled}
-use Rattle.f77_subs.specs.Units.{unit_at}
-use Rattle.f77_subs.specs.Widths.{width, body_width, labels, body_labels}
-use Rattle.f77_subs.specs.Copies.{Copying, Context, piece, pieces, copy}
-use Rattle.f77_subs.specs.ListedCopies.{HasAt, piece_at}
-use Rattle.f77_subs.proofs.CopyWidths.{pieces_length, copy_length}
-use Rattle.f77_subs.proofs.Having.{moved, alike, has_first, has_second, sum-front}
+use Rattle.program_units.specs.Units.{unit_at}
+use Rattle.program_units.specs.Widths.{width, body_width, labels, body_labels}
+use Rattle.program_units.specs.Copies.{Copying, Context, piece, pieces, copy}
+use Rattle.program_units.specs.ListedCopies.{HasAt, piece_at}
+use Rattle.unit_laws.proofs.CopyWidths.{pieces_length, copy_length}
+use Rattle.unit_laws.proofs.Having.{moved, alike, has_first, has_second, sum-front}
 
 -- the pieces, cut at one of them
 cut : (body : Copying) (us : List (List Labelled)) (c : Context) (before : ℕ) (xs : List Labelled) (j : ℕ) (s : Labelled) → slice_get xs j ≡ Some s

@@ -17,13 +17,13 @@ use Rattle.layout_rules.specs.declared.nesting.Opened.{Opened}
 use Rattle.layout_rules.specs.declared.nesting.Role.TheVariants.{BeginLoop}
 use Rattle.layout_rules.proofs.OpenWalks.{goes_on, nothing-at-end, is_open, stays-open, loop-begins}
 use Rattle.layout_rules.specs.declared.layout_end.LayoutEnd.TheVariants.{LabelTwice, LabelMissing, BadNesting}
-use Rattle.f77_subs.specs.Units.{is_end, stand_in, standing_in, unit_at}
-use Rattle.f77_subs.specs.Widths.{is_kept}
-use Rattle.f77_subs.specs.CopiedLoops.{HasEndOf}
-use Rattle.f77_subs.specs.OpenBlocks.{IsEnded}
+use Rattle.program_units.specs.Units.{is_end, stand_in, standing_in, unit_at}
+use Rattle.program_units.specs.Widths.{is_kept}
+use Rattle.program_units.specs.CopiedLoops.{HasEndOf}
+use Rattle.program_units.specs.OpenBlocks.{IsEnded}
 use Rattle.copied_control.proofs.ClosedUnits.{standing, stands-alike, end_is}
-use Rattle.f77_subs.proofs.NoAnswer.{line-none, none-at}
-use Rattle.f77_subs.proofs.Kept.{kept-by}
+use Rattle.unit_laws.proofs.NoAnswer.{line-none, none-at}
+use Rattle.unit_laws.proofs.Kept.{kept-by}
 use Rattle.copied_control.proofs.MappedLandings.{last-is}
 
 -- ---- what first faults tell

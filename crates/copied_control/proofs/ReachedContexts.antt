@@ -3,17 +3,17 @@ use Rattle.std.proofs.Common.{◌≡◌, ℕ, ◌<◌, List, Some, arith}
 use Rattle.std.specs.List.{slice_get}
 use Rattle.std.proofs.lemmas.Bool.{ltb-true}
 use Rattle.f77_tree.specs.declared.statements.Labelled.{Labelled}
-use Rattle.f77_subs.specs.Units.{Call, call_in, unit_at, unit_of}
-use Rattle.f77_subs.specs.Contexts.{IsReached, main, called, IsInPlace}
-use Rattle.f77_subs.specs.Copies.{Context}
-use Rattle.f77_subs.specs.CopiedLoops.{HaveEnds}
-use Rattle.f77_subs.specs.Expansion.{whole_list}
-use Rattle.f77_subs.specs.Heights.{NoneCallsItself, height}
+use Rattle.program_units.specs.Units.{Call, call_in, unit_at, unit_of}
+use Rattle.program_units.specs.Contexts.{IsReached, main, called, IsInPlace}
+use Rattle.program_units.specs.Copies.{Context}
+use Rattle.program_units.specs.CopiedLoops.{HaveEnds}
+use Rattle.program_units.specs.Expansion.{whole_list}
+use Rattle.program_units.specs.Heights.{NoneCallsItself, height}
 use Rattle.copied_control.proofs.CopiedLoops.{called-loops}
 use Rattle.copied_control.proofs.LoopsTo.{main-loops}
-use Rattle.f77_subs.proofs.SettledCopies.{pass_at}
+use Rattle.unit_laws.proofs.SettledCopies.{pass_at}
 use Rattle.copied_control.proofs.StandingCopies.{main-stands, called-stands}
-use Rattle.f77_subs.proofs.UnitHeights.{are-heights, heights-few}
+use Rattle.unit_laws.proofs.UnitHeights.{are-heights, heights-few}
 
 -- what a unit calls is lower
 pub lower : (us : List (List Labelled)) → NoneCallsItself us → (k place : ℕ) (s : Labelled) (call : Call) → slice_get (unit_at us k) place ≡ Some s → call_in s.stmt ≡ Some call → height us (unit_of us call.name) < height us k

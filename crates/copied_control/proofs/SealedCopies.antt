@@ -9,13 +9,13 @@ use Rattle.f77_tree.specs.declared.statements.Stmt.{Stmt}
 use Rattle.f77_tree.specs.declared.statements.Stmt.TheVariants.{Continue, EndIf}
 use Rattle.layout_rules.specs.Labels.{is_arm}
 use Rattle.layout_rules.specs.Jumps.{is_block_if, is_end_if, end_after}
-use Rattle.f77_subs.specs.Units.{Call, call_in}
-use Rattle.f77_subs.specs.declared.entity.Entity.{Entity}
-use Rattle.f77_subs.specs.Widths.{is_kept, labels, body_labels}
-use Rattle.f77_subs.specs.Copies.{Change, Copying, Context, bare, changes, changed_stmt, around, piece_by, number_at, pieces, copy}
-use Rattle.f77_subs.specs.ListedCopies.{piece_at}
-use Rattle.f77_subs.specs.OpenBlocks.{are_closed, AreClosedUnits}
-use Rattle.f77_subs.proofs.BlockRoles.{Alike, IsNeutral, changed-alike, unkept_neutral, call_neutral}
+use Rattle.program_units.specs.Units.{Call, call_in}
+use Rattle.program_units.specs.declared.entity.Entity.{Entity}
+use Rattle.program_units.specs.Widths.{is_kept, labels, body_labels}
+use Rattle.program_units.specs.Copies.{Change, Copying, Context, bare, changes, changed_stmt, around, piece_by, number_at, pieces, copy}
+use Rattle.program_units.specs.ListedCopies.{piece_at}
+use Rattle.program_units.specs.OpenBlocks.{are_closed, AreClosedUnits}
+use Rattle.unit_laws.proofs.BlockRoles.{Alike, IsNeutral, changed-alike, unkept_neutral, call_neutral}
 use Rattle.std.proofs.lemmas.Grind.{elements}
 
 -- ---- one statement

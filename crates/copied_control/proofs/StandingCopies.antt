@@ -7,17 +7,17 @@ use Rattle.std.proofs.lemmas.Option.{slice_get_within}
 use Rattle.f77_tree.specs.declared.statements.Labelled.{Labelled}
 use Rattle.f77_tree.specs.declared.statements.RawExpr.{RawExpr}
 use Rattle.f77_tree.specs.declared.statements.Stmt.TheVariants.{Continue, BlockIf}
-use Rattle.f77_subs.specs.Units.{Call, call_in, guard_of, unit_at, unit_of}
-use Rattle.f77_subs.specs.declared.entity.Entity.{Entity}
-use Rattle.f77_subs.specs.Entities.{stands_for}
-use Rattle.f77_subs.specs.Widths.{width, body_width, labels, body_labels, labels_before}
-use Rattle.f77_subs.specs.Copies.{Change, Context, bare, changes, changed, around, copy, number_at}
-use Rattle.f77_subs.specs.Expansion.{put_in, declared_first, main_context, main_pieces, whole_list}
-use Rattle.f77_subs.specs.ListedCopies.{HasAt, AreDeclared, piece_at, width_before, called_context, lines_before, closing, IsClosedAt, StandsIn, copied_place, main_place}
-use Rattle.f77_subs.proofs.CopyWidths.{piece_length, pieces_length, copy_length}
-use Rattle.f77_subs.proofs.Having.{moved, alike, has_all, has_none, has_first, has_second, get-drop, sum-next}
+use Rattle.program_units.specs.Units.{Call, call_in, guard_of, unit_at, unit_of}
+use Rattle.program_units.specs.declared.entity.Entity.{Entity}
+use Rattle.program_units.specs.Entities.{stands_for}
+use Rattle.program_units.specs.Widths.{width, body_width, labels, body_labels, labels_before}
+use Rattle.program_units.specs.Copies.{Change, Context, bare, changes, changed, around, copy, number_at}
+use Rattle.program_units.specs.Expansion.{merged, declared_first, main_context, main_pieces, whole_list}
+use Rattle.program_units.specs.ListedCopies.{HasAt, AreDeclared, piece_at, width_before, called_context, lines_before, closing, IsClosedAt, StandsIn, copied_place, main_place}
+use Rattle.unit_laws.proofs.CopyWidths.{piece_length, pieces_length, copy_length}
+use Rattle.unit_laws.proofs.Having.{moved, alike, has_all, has_none, has_first, has_second, get-drop, sum-next}
 use Rattle.copied_control.proofs.PiecesInLists.{Stretch, before, piece_stands}
-use Rattle.f77_subs.proofs.PutInDeclared.{put-in-declared}
+use Rattle.unit_laws.proofs.MergedDeclared.{merged-declared}
 use Rattle.copied_control.proofs.WhichPieces.{piece-around}
 
 -- ---- next to one another
@@ -50,11 +50,11 @@ module _ (us : List (List Labelled)) where
   abbrev main_wide : Labelled → ℕ
   main_wide = wide us (main_context us)
 
-  whole-is : whole_list us ≡ early ++ (put_in us ++ late)
-  whole-is = append_assoc early (put_in us) late
+  whole-is : whole_list us ≡ early ++ (merged us ++ late)
+  whole-is = append_assoc early (merged us) late
 
-  has_rest : HasAt (whole_list us) (0 + length early) (put_in us ++ late)
-  has_rest = has_second (whole_list us) early (put_in us ++ late) 0 (alike (whole_list us) (whole_list us) (early ++ (put_in us ++ late)) 0 whole-is (has_all (whole_list us)))
+  has_rest : HasAt (whole_list us) (0 + length early) (merged us ++ late)
+  has_rest = has_second (whole_list us) early (merged us ++ late) 0 (alike (whole_list us) (whole_list us) (early ++ (merged us ++ late)) 0 whole-is (has_all (whole_list us)))
 
   pub early-long : length early ≡ sum_by main_wide (take p main)
   early-long = pieces_length us (copy us (length us)) (body_width us (length us)) (copy_length us (length us)) (main_context us) 0 (take p main)
@@ -68,14 +68,14 @@ module _ (us : List (List Labelled)) where
   abbrev Here : ℕ → Labelled → Type 0
   Here place s = HasAt (whole_list us) (main_place us place) (piece_at us (main_context us) place s)
 
-  pub place-early : (place : ℕ) (b : Bool) → nat_lt place p ≡ b → main_place us place ≡ width_before us (length us) 0 place + (if b then 0 else length (put_in us))
-  place-early place b is = ap (λ (t : Bool). width_before us (length us) 0 place + (if t then 0 else length (put_in us))) is
+  pub place-early : (place : ℕ) (b : Bool) → nat_lt place p ≡ b → main_place us place ≡ width_before us (length us) 0 place + (if b then 0 else length (merged us))
+  place-early place b is = ap (λ (t : Bool). width_before us (length us) 0 place + (if t then 0 else length (merged us))) is
 
   main-early : (place : ℕ) (s : Labelled) → nat_lt place p ≡ true → slice_get main place ≡ Some s → Here place s
   main-early place s is_early is =
       let below : place < p = ltb-true place p is_early in
       let stretch : Stretch main (take p main) 0 = record { front = []; back = drop p main; is = sym (take-append-drop p main); first = refl } in
-      let has = has_first (whole_list us) early (put_in us ++ late) 0 (alike (whole_list us) (whole_list us) (early ++ (put_in us ++ late)) 0 whole-is (has_all (whole_list us))) in
+      let has = has_first (whole_list us) early (merged us ++ late) 0 (alike (whole_list us) (whole_list us) (early ++ (merged us ++ late)) 0 whole-is (has_all (whole_list us))) in
       let stands = piece_stands us (whole_list us) (main_context us) (take p main) 0 0 stretch has place place s (let e : 0 + place ≡ place = omega arith in e) (get-take main place p s below is) in
       let short = ap (λ (xs : List Labelled). sum_by main_wide xs) (take-take place p main (omega (arith, below))) in
       let there = place-early place true is_early in
@@ -90,14 +90,14 @@ module _ (us : List (List Labelled)) where
       let back_again : p + j ≡ place = omega (arith, above) in
       let found : slice_get (drop p main) j ≡ Some s = get-drop main p j ∙ ap (λ (n : ℕ). slice_get main n) back_again ∙ is in
       let stretch : Stretch main (drop p main) p = record { front = take p main; back = []; is = sym (ap (λ (xs : List Labelled). take p main ++ xs) (append-nil (drop p main)) ∙ take-append-drop p main); first = length-take-le p main (omega (arith, above, inside)) } in
-      let has = has_second (whole_list us) (put_in us) late (0 + length early) has_rest in
-      let stands = piece_stands us (whole_list us) (main_context us) (drop p main) p (0 + length early + length (put_in us)) stretch has j place s back_again found in
-      let sums = before us (whole_list us) (main_context us) (drop p main) p (0 + length early + length (put_in us)) stretch main_wide j s found in
+      let has = has_second (whole_list us) (merged us) late (0 + length early) has_rest in
+      let stands = piece_stands us (whole_list us) (main_context us) (drop p main) p (0 + length early + length (merged us)) stretch has j place s back_again found in
+      let sums = before us (whole_list us) (main_context us) (drop p main) p (0 + length early + length (merged us)) stretch main_wide j s found in
       let again = ap (λ (n : ℕ). sum_by main_wide (take n main)) back_again in
       let there = place-early place false is_late in
       let long = early-long in
-      let same : 0 + length early + length (put_in us) + sum_by main_wide (take j (drop p main)) ≡ main_place us place = omega (arith, sums, again, there, long) in
-      moved (whole_list us) (piece_at us (main_context us) place s) (0 + length early + length (put_in us) + sum_by main_wide (take j (drop p main))) (main_place us place) same stands
+      let same : 0 + length early + length (merged us) + sum_by main_wide (take j (drop p main)) ≡ main_place us place = omega (arith, sums, again, there, long) in
+      moved (whole_list us) (piece_at us (main_context us) place s) (0 + length early + length (merged us) + sum_by main_wide (take j (drop p main))) (main_place us place) same stands
 
   main-piece : (place : ℕ) (s : Labelled) → slice_get main place ≡ Some s → Here place s
   main-piece place s is = ⊎_elim (λ (h : nat_lt place p ≡ true). main-early place s h is) (λ (h : nat_lt place p ≡ false). main-late place s h is) (cases_Bool (nat_lt place p))
@@ -114,7 +114,7 @@ module _ (us : List (List Labelled)) where
 
   next-put : (place : ℕ) (s : Labelled) → nat_lt place p ≡ true → nat_lt (place + 1) p ≡ false → slice_get main place ≡ Some s → NextTo place s
   next-put place s here next is =
-      grind (arith, place-early place true here, place-early (place + 1) false next, next-sum place s is, ltb-true place p here, ltb-false (place + 1) p next, early-long, sum_by main_wide, moved (whole_list us) (put_in us) (0 + length early) (main_place us place + length (piece_at us (main_context us) place s)), has_first (whole_list us) (put_in us) late (0 + length early) has_rest, has_rest, put-in-declared us)
+      grind (arith, place-early place true here, place-early (place + 1) false next, next-sum place s is, ltb-true place p here, ltb-false (place + 1) p next, early-long, sum_by main_wide, moved (whole_list us) (merged us) (0 + length early) (main_place us place + length (piece_at us (main_context us) place s)), has_first (whole_list us) (merged us) late (0 + length early) has_rest, has_rest, merged-declared us)
 
   main-next : (place : ℕ) (s : Labelled) → slice_get main place ≡ Some s → NextTo place s
   main-next place s is = grind (arith, next-same, next-put, ltb-false, le-ltb)

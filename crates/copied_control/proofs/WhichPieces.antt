@@ -1,12 +1,12 @@
 -- What stands for a statement: nothing, a copied statement, or a copy between labels.
 use Rattle.std.proofs.Common.{◌≡◌, ℕ, ◌+◌, ◌==◌, ⊎_elim, Bool, true, false, List, [], ◌∷◌, map, Option, Some, None, if◌then◌else◌, refl, sym, ap, ◌∙◌}
 use Rattle.f77_tree.specs.declared.statements.Labelled.{Labelled}
-use Rattle.f77_subs.specs.Units.{Call, call_in, guard_of, unit_of}
-use Rattle.f77_subs.specs.Entities.{stands_for}
-use Rattle.f77_subs.specs.Widths.{is_kept, labels, body_labels}
-use Rattle.f77_subs.specs.Copies.{Context, bare, changes, changed_stmt, around, piece_by, number_at, copy}
-use Rattle.f77_subs.specs.ListedCopies.{piece_at}
-use Rattle.f77_subs.proofs.Kept.{kept_or_none}
+use Rattle.program_units.specs.Units.{Call, call_in, guard_of, unit_of}
+use Rattle.program_units.specs.Entities.{stands_for}
+use Rattle.program_units.specs.Widths.{is_kept, labels, body_labels}
+use Rattle.program_units.specs.Copies.{Context, bare, changes, changed_stmt, around, piece_by, number_at, copy}
+use Rattle.program_units.specs.ListedCopies.{piece_at}
+use Rattle.unit_laws.proofs.Kept.{kept_or_none}
 use Rattle.std.proofs.Common.{arith}
 
 module _ (us : List (List Labelled)) (c : Context) where

@@ -1,4 +1,4 @@
-//! Copies of units keep their control: laws over the definitions of `f77_subs`. No code of the compiler is here.
+//! Copies of units keep their control: laws over the definitions of `program_units`. No code of the compiler is here.
 #![tactic(auto)]
 
 mod listed_copies;

@@ -8,19 +8,19 @@ ghost use Rattle.layout_rules.specs.Executables.{first_of, is_do_to, loops_to, m
 ghost use Rattle.layout_rules.specs.Jumps.{end_after, end_of_arm, end_of_block, is_block_if};
 ghost use Rattle.layout_rules.specs.Labels.{is_arm, statement_of};
 ghost use Rattle.layout_rules.specs.Layout.{refusal};
-ghost use Rattle.f77_subs.specs.Units.{Call, call_in, guard_of, standing_in, unit_at, unit_of, units};
-ghost use Rattle.f77_subs.specs.declared.entity.Entity.{Entity};
-ghost use Rattle.f77_subs.specs.Widths.{body_labels, body_width, labels, labels_written};
-ghost use Rattle.f77_subs.specs.Contexts.{IsInPlace, IsReached};
-ghost use Rattle.f77_subs.specs.Heights.{NoneCallsItself};
-ghost use Rattle.f77_subs.specs.Copies.{Context, copy, number_at};
-ghost use Rattle.f77_subs.specs.Expansion.{main_context, whole_list};
-ghost use Rattle.f77_subs.specs.ListedCopies.{IsClosedAt, StandsIn, called_context, closing, copied_place, lines_before, main_place, piece_at};
-ghost use Rattle.f77_subs.specs.CopiedLoops.{HasEndOf, HasItsLoops, HaveEnds, IsEndOf, last_number};
+ghost use Rattle.program_units.specs.Units.{Call, call_in, guard_of, standing_in, unit_at, unit_of, units};
+ghost use Rattle.program_units.specs.declared.entity.Entity.{Entity};
+ghost use Rattle.program_units.specs.Widths.{body_labels, body_width, labels, labels_written};
+ghost use Rattle.program_units.specs.Contexts.{IsInPlace, IsReached};
+ghost use Rattle.program_units.specs.Heights.{NoneCallsItself};
+ghost use Rattle.program_units.specs.Copies.{Context, copy, number_at};
+ghost use Rattle.program_units.specs.Expansion.{main_context, whole_list};
+ghost use Rattle.program_units.specs.ListedCopies.{IsClosedAt, StandsIn, called_context, closing, copied_place, lines_before, main_place, piece_at};
+ghost use Rattle.program_units.specs.CopiedLoops.{HasEndOf, HasItsLoops, HaveEnds, IsEndOf, last_number};
 ghost use Rattle.copied_control.specs.Landings.{landing};
-ghost use Rattle.f77_subs.specs.OpenBlocks.{AreClosedUnits, IsEnded, are_closed};
-ghost use Rattle.f77_subs.specs.Refusals.{unit_refusal};
-ghost use Rattle.f77_subs.specs.Texts.{IsText};
+ghost use Rattle.program_units.specs.OpenBlocks.{AreClosedUnits, IsEnded, are_closed};
+ghost use Rattle.program_units.specs.Refusals.{unit_refusal};
+ghost use Rattle.program_units.specs.Texts.{IsText};
 
 /// The main program stands in the whole list, and where the context of a unit stands in a list, so does that of each CALL in
 /// the unit, behind the label before it and, after a condition, the IF.
@@ -47,7 +47,7 @@ pub fn copies_are_sealed()
 {}
 
 /// Where control goes from an IF, ELSE IF or ELSE: what stands for the end of its arm and of its block is the end in the list,
-/// and the block that is put in after the condition of a logical IF ends behind the copy.
+/// and the block that is merged after the condition of a logical IF ends behind the copy.
 pub fn arms_end_alike()
     ensures arms { (us : List (List Labelled)) → AreClosedUnits us
         → (list : List Labelled) (c : Context) (at : ℕ → ℕ) → StandsIn us list c at → (place : ℕ) (s : Labelled)

@@ -7,21 +7,21 @@ use Rattle.f77_tree.specs.declared.programs.Program.{Program}
 use Rattle.f77_tree.specs.declared.statements.Labelled.{Labelled}
 use Rattle.f77_tree.specs.StatementGrammar.{is_of_subroutines}
 use Rattle.layout_rules.specs.Faults.{first_after, first_answer, first_line}
-use Rattle.f77_subs.specs.declared.entity.Entity.{Entity}
-use Rattle.f77_subs.specs.declared.sub_end.SubEnd.{SubEnd}
-use Rattle.f77_subs.specs.declared.sub_end.SubEnd.TheVariants.{TooManyNames, UnitOrder}
-use Rattle.f77_subs.specs.NamedEntities.{AreAllNamed, is_declared}
-use Rattle.f77_subs.specs.Names.{free_numbers, y_entities}
-use Rattle.f77_subs.specs.Refusals.{end_at, expansion, follows_end, form_refusals, has_great_name, is_out_of_unit, list_unless, main_line_if, unit_refusal, unit_refusals}
-use Rattle.f77_subs.specs.Texts.{IsText}
-use Rattle.f77_subs.specs.Units.{dummies_of, in_first, is_end, sub_dummies, unit_at, unit_or_none, units}
-use Rattle.f77_subs.proofs.AcceptedTables.{is_plain, main-plain, no-fault, none-passed}
-use Rattle.f77_subs.proofs.FirstUnits.{first-unit}
-use Rattle.f77_subs.proofs.NamedEntities.{all-named, each-own}
-use Rattle.f77_subs.proofs.NoAnswer.{form-none, no-end, none-at}
-use Rattle.f77_subs.proofs.SettledCopies.{pass_at}
-use Rattle.f77_subs.proofs.TextNames.{text-short}
-use Rattle.f77_subs.proofs.UnitWalk.{follows-push}
+use Rattle.program_units.specs.declared.entity.Entity.{Entity}
+use Rattle.program_units.specs.declared.sub_end.SubEnd.{SubEnd}
+use Rattle.program_units.specs.declared.sub_end.SubEnd.TheVariants.{TooManyNames, UnitOrder}
+use Rattle.program_units.specs.NamedEntities.{AreAllNamed, is_declared}
+use Rattle.program_units.specs.Names.{free_numbers, y_entities}
+use Rattle.program_units.specs.Refusals.{end_at, expansion, follows_end, form_refusals, has_great_name, is_out_of_unit, list_unless, main_line_if, unit_refusal, unit_refusals}
+use Rattle.program_units.specs.Texts.{IsText}
+use Rattle.program_units.specs.Units.{dummies_of, in_first, is_end, sub_dummies, unit_at, unit_or_none, units}
+use Rattle.unit_laws.proofs.AcceptedTables.{is_plain, main-plain, no-fault, none-passed}
+use Rattle.unit_laws.proofs.FirstUnits.{first-unit}
+use Rattle.entity_names.proofs.NamedEntities.{all-named, each-own}
+use Rattle.unit_laws.proofs.NoAnswer.{form-none, no-end, none-at}
+use Rattle.unit_laws.proofs.SettledCopies.{pass_at}
+use Rattle.unit_laws.proofs.TextNames.{text-short}
+use Rattle.program_units.proofs.UnitWalk.{follows-push}
 use Rattle.f77_source.specs.Reading.{HasStatements, IsProgramOf, statements_in, statements_read}
 use Rattle.f77_source.specs.Listed.{is_one_unit, listed, stays_in_unit}
 use Rattle.copied_names.specs.CopiedNames.{first_dummies, HaveDummiesFirst}

@@ -5,13 +5,13 @@ use Rattle.std.specs.List.{position_or_len, slice_get}
 use Rattle.std.proofs.lemmas.Bool.{ltb-false, ltb-true, ne_eqb}
 use Rattle.std.proofs.lemmas.Option.{slice_get_past}
 use Rattle.f77_tree.specs.declared.statements.Labelled.{Labelled}
-use Rattle.f77_subs.specs.Copies.{change_in}
-use Rattle.f77_subs.specs.Entities.{entity_at, entity_of, stands_for}
-use Rattle.f77_subs.specs.declared.entity.Entity.{Entity}
-use Rattle.f77_subs.specs.Names.{name_for}
-use Rattle.f77_subs.specs.Units.{dummies_of, unit_at}
-use Rattle.f77_subs.specs.UnitTables.{new_name}
-use Rattle.f77_subs.specs.declared.unit_table.NewName.TheVariants.{Argument as Place, Fixed}
+use Rattle.program_units.specs.Copies.{change_in}
+use Rattle.program_units.specs.Entities.{entity_at, entity_of, stands_for}
+use Rattle.program_units.specs.declared.entity.Entity.{Entity}
+use Rattle.program_units.specs.Names.{name_for}
+use Rattle.program_units.specs.Units.{dummies_of, unit_at}
+use Rattle.program_units.specs.NewNames.{new_name}
+use Rattle.program_units.specs.declared.new_name.NewName.TheVariants.{Argument as Place, Fixed}
 use Rattle.copied_names.specs.CopiedNames.{HasNextPlace, becomes, becomes_as, becomes_by}
 use Rattle.copied_names.specs.declared.copied.Becomes.TheVariants.{Argument, Named}
 

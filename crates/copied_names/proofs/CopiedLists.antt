@@ -6,7 +6,7 @@ use Rattle.std.proofs.lemmas.List.{append-nil, append_assoc, map-append, take_mo
 use Rattle.std.proofs.lemmas.List.Concat.{flat_map-cons}
 use Rattle.std.proofs.lemmas.Option.{get_or_from_slice_get, slice_get_within}
 use Rattle.f77_tree.specs.declared.statements.Labelled.{Labelled}
-use Rattle.f77_subs.proofs.OwnEntities.{range-push}
+use Rattle.program_units.proofs.Counting.{range-push}
 use Rattle.copied_names.specs.declared.copied.Becomes.{Becomes}
 use Rattle.copied_names.specs.declared.copied.CopiedName.{CopiedName}
 use Rattle.copied_names.specs.CopiedNames.{becomes, copied_name, copied_names, names_in_copies}

@@ -2,11 +2,11 @@
 use Rattle.std.specs.Prelude.{◌≡◌, ℕ, ◌+◌, ◌-◌, ◌^◌, ◌<◌, List, [], ◌∷◌, map, flat_map, length, Option, Some, None, bytes_eq}
 use Rattle.std.specs.List.{position, range_with_len}
 use Rattle.f77_tree.specs.declared.statements.Labelled.{Labelled}
-use Rattle.f77_subs.specs.declared.unit_table.NewName.{NewName}
-use Rattle.f77_subs.specs.declared.unit_table.NewName.TheVariants.{Argument as Place, Fixed}
-use Rattle.f77_subs.specs.Entities.{entity_of}
-use Rattle.f77_subs.specs.Names.{name_for, names_of_unit}
-use Rattle.f77_subs.specs.Units.{dummies_of, sub_dummies, sub_name, unit_at, units}
+use Rattle.program_units.specs.declared.new_name.NewName.{NewName}
+use Rattle.program_units.specs.declared.new_name.NewName.TheVariants.{Argument as Place, Fixed}
+use Rattle.program_units.specs.Entities.{entity_of}
+use Rattle.program_units.specs.Names.{name_for, names_of_unit}
+use Rattle.program_units.specs.Units.{dummies_of, sub_dummies, sub_name, unit_at, units}
 use Rattle.f77_source.specs.Reading.{HasStatements}
 use Rattle.copied_names.specs.declared.copied.Becomes.{Becomes}
 use Rattle.copied_names.specs.declared.copied.Becomes.TheVariants.{Argument, Named}

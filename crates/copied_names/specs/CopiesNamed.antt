@@ -1,10 +1,10 @@
 -- What names are in the copies of subroutines.
 use Rattle.std.specs.Prelude.{◌≡◌, ℕ, ◌+◌, ◌<◌, ◌≤◌, List, length, Some, slice_get}
 use Rattle.f77_tree.specs.declared.statements.Labelled.{Labelled}
-use Rattle.f77_subs.specs.Copies.{change_in}
-use Rattle.f77_subs.specs.declared.entity.Entity.{Entity}
-use Rattle.f77_subs.specs.Names.{name_for}
-use Rattle.f77_subs.specs.Units.{dummies_of, unit_at}
+use Rattle.program_units.specs.Copies.{change_in}
+use Rattle.program_units.specs.declared.entity.Entity.{Entity}
+use Rattle.program_units.specs.Names.{name_for}
+use Rattle.program_units.specs.Units.{dummies_of, unit_at}
 use Rattle.copied_names.specs.CopiedNames.{becomes}
 use Rattle.copied_names.specs.declared.copied.Becomes.TheVariants.{Argument, Named}
 

@@ -3,15 +3,16 @@ ghost use Rattle.std.specs.Prelude.{◌≡◌, ◌+◌, ◌<◌, ◌^◌, ◌++�
 ghost use Rattle.f77_source.specs.declared.source_end.Refusal.{Refusal};
 ghost use Rattle.f77_source.specs.declared.source_end.SourceEnd.TheVariants.{Refused};
 ghost use Rattle.f77_source.specs.Reading.{reading};
-ghost use Rattle.f77_subs.specs.NamedEntities.{AreAllNamed};
-ghost use Rattle.f77_subs.specs.Refusals.{has_great_name};
-ghost use Rattle.f77_subs.specs.Units.{dummies_of, sub_name as sub_name_of, unit_at, units};
+ghost use Rattle.program_units.specs.NamedEntities.{AreAllNamed};
+ghost use Rattle.program_units.specs.Refusals.{has_great_name};
+ghost use Rattle.program_units.specs.Units.{dummies_of, sub_name as sub_name_of, unit_at, units};
 ghost use Rattle.copied_names.specs.CopiedNames.{AreNamesOf, becomes_as, copied_names as copied_names_of, first_dummies, HasNextPlace, HaveDummiesFirst, names_by, names_in_copies, subroutine as subroutine_of};
 
 use df_sequence::{Copied, NoMemory};
+use entity_names::{NewNames, TextEntities};
 use f77_source::{SourceEnd, read_program, read_statements};
-use f77_subs::{NewName, NewNames, TextEntities, Units};
 use f77_tree::{Labelled, Name, Stmt};
+use program_units::{NewName, Units};
 use std::alloc::Global;
 
 /// What a name of a subroutine becomes in its copies.

@@ -18,7 +18,7 @@ use Rattle.layout_rules.specs.Appearances.{called_name, names_in, names_in_row}
 use Rattle.declared_names.specs.Functions.{intrinsic_named}
 use Rattle.layout_rules.specs.Types.{Intrinsic, count_of_row, dims_named, intrinsics, is_array_in, is_intrinsic, is_kind, is_of_kind, is_row_of, kind_in, kind_named, kind_of_call, takes}
 use Rattle.copied_values.specs.ChangedTables.{AreChangedTables, AreKnown, IsKnownAs}
-use Rattle.f77_subs.specs.Copies.{Change, changed, changed_call, changed_row, intrinsic_or, pairs}
+use Rattle.program_units.specs.Copies.{Change, changed, changed_call, changed_row, intrinsic_or, pairs}
 use Rattle.layout_rules.proofs.RawRows.{kind_in-Apply, kind_in-Call}
 
 -- ---- kinds and functions

@@ -27,7 +27,7 @@ use Rattle.layout_rules.specs.Appearances.{names_in, names_in_item}
 use Rattle.layout_rules.specs.Resolved.{in_dialect, intrinsic_call, nested, resolved, resolved_call, resolved_item, resolved_row}
 use Rattle.layout_rules.specs.Types.{Intrinsic, count_of_row, intrinsics, is_array_in, is_item, is_row_of, kind_in, kind_named, kind_of_call}
 use Rattle.copied_values.specs.ChangedTables.{AreChangedTables, AreHeld, AreKnown}
-use Rattle.f77_subs.specs.Copies.{Change, changed, changed_item}
+use Rattle.program_units.specs.Copies.{Change, changed, changed_item}
 use Rattle.copied_values.proofs.ChangedValues.{IsCall, Array, Function, IsFunction, call-is, function, kinds}
 use Rattle.copied_values.proofs.CopiedValues.{array-resolved, function-resolved, values}
 

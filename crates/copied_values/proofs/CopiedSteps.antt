@@ -36,7 +36,7 @@ use Rattle.layout_rules.specs.Executables.{kind_or_integer}
 use Rattle.layout_rules.specs.Resolved.{access_of, resolved, resolved_item, resolved_step}
 use Rattle.layout_rules.specs.Types.{dims_named, is_array_in, is_item, is_kind, is_kind_of_target, is_of_kind, is_step, is_target, is_variable, is_well_kinded, kind_in, kind_named}
 use Rattle.copied_values.specs.ChangedTables.{AreHeld, AreSameElement, target_name}
-use Rattle.f77_subs.specs.Copies.{Change, changed, changed_item, changed_step}
+use Rattle.program_units.specs.Copies.{Change, changed, changed_item, changed_step}
 use Rattle.copied_values.specs.SideBySide.{AreSideBySide, AreTied, GoAlike, HoldAlike, IsPairing, with_pair}
 use Rattle.copied_values.proofs.ChangedValues.{array-named, kinds}
 use Rattle.copied_values.proofs.CopiedLines.{lines, takes-none}

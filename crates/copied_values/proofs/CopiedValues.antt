@@ -26,7 +26,7 @@ use Rattle.layout_rules.specs.Appearances.{called_name, names_in, names_in_row, 
 use Rattle.layout_rules.specs.Resolved.{access_of, in_dialect, intrinsic_call, nested, resolved, resolved_call, resolved_row, resolved_step}
 use Rattle.layout_rules.specs.Types.{Intrinsic, count_of_row, dims_named, intrinsics, is_array_in, is_intrinsic, is_kind, is_row_of, is_step, is_target, kind_in, kind_named, kind_of_call}
 use Rattle.copied_values.specs.ChangedTables.{AreChangedTables, AreHeld, AreKnown, AreSameElement, HoldTheSame, IsKnownAs, target_name}
-use Rattle.f77_subs.specs.Copies.{Change, changed, changed_call, changed_row, changed_step}
+use Rattle.program_units.specs.Copies.{Change, changed, changed_call, changed_row, changed_step}
 use Rattle.copied_values.proofs.ChangedValues.{IsCall, Array, Function, IsFunction, FunctionChanged, Paired, Stays, array-call, array-known, call-is, function, function-call}
 use Rattle.copied_values.proofs.RawTrees.{access_of-Call, resolved-Apply, resolved-Call, resolved-pairs}
 use Rattle.copied_values.proofs.SameElements.{elements}

@@ -5,8 +5,8 @@ use Rattle.f77_tree.specs.declared.statements.Labelled.{Labelled}
 use Rattle.f77_tree.specs.OtherPlaces.{DifferInPlaces, without_places}
 use Rattle.layout_rules.specs.Layout.{names_of, placed_from, placed_names, program, spots_of}
 use Rattle.layout_rules.specs.Storage.{Spot}
-use Rattle.f77_subs.specs.declared.entity.Entity.{Entity}
-use Rattle.f77_subs.specs.Storage.{placed}
+use Rattle.program_units.specs.declared.entity.Entity.{Entity}
+use Rattle.program_units.specs.Storage.{placed}
 
 -- an entry at word 0
 abbrev bare : NameInfo → NameInfo

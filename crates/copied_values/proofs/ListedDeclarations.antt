@@ -10,21 +10,21 @@ use Rattle.f77_tree.specs.declared.statements.RawExpr.{RawExpr}
 use Rattle.f77_tree.specs.declared.statements.Stmt.{Stmt}
 use Rattle.layout_rules.specs.Faults.{first_after, first_line}
 use Rattle.layout_rules.specs.Labels.{is_executable}
-use Rattle.f77_subs.specs.declared.sub_end.SubEnd.TheVariants.{UnitOrder}
-use Rattle.f77_subs.specs.Copies.{Change, Context, Copying, around, bare, changed_stmt, changes, copy, piece, piece_by, pieces}
-use Rattle.f77_subs.specs.declared.entity.Entity.{Entity}
-use Rattle.f77_subs.specs.Entities.{stands_for}
-use Rattle.f77_subs.specs.Expansion.{declared_first, main_context, main_pieces, put_in, whole_list}
+use Rattle.program_units.specs.declared.sub_end.SubEnd.TheVariants.{UnitOrder}
+use Rattle.program_units.specs.Copies.{Change, Context, Copying, around, bare, changed_stmt, changes, copy, piece, piece_by, pieces}
+use Rattle.program_units.specs.declared.entity.Entity.{Entity}
+use Rattle.program_units.specs.Entities.{stands_for}
+use Rattle.program_units.specs.Expansion.{declared_first, main_context, main_pieces, merged, whole_list}
 use Rattle.copied_values.specs.ListedDeclarations.{declarations, unless_executable}
-use Rattle.f77_subs.specs.Refusals.{differ, is_end_at, is_out_of_unit, unit_refusal}
-use Rattle.f77_subs.specs.Texts.{IsText}
-use Rattle.f77_subs.specs.Units.{Call, call_in, guard_of, in_first, inner, is_end, is_return, is_sub_of, sub_name, unit_at, unit_of, unit_or_none, units}
-use Rattle.f77_subs.specs.Widths.{body_labels, is_kept, labels, labels_before}
-use Rattle.f77_subs.proofs.BlockRoles.{call_neutral, changed-alike}
-use Rattle.f77_subs.proofs.NoAnswer.{no-end, none-at}
-use Rattle.f77_subs.proofs.Kept.{kept-by}
-use Rattle.f77_subs.proofs.PutInDeclared.{put-in-declared}
-use Rattle.f77_subs.proofs.ReachedUnits.{some-unit}
+use Rattle.program_units.specs.Refusals.{differ, is_end_at, is_out_of_unit, unit_refusal}
+use Rattle.program_units.specs.Texts.{IsText}
+use Rattle.program_units.specs.Units.{Call, call_in, guard_of, in_first, inner, is_end, is_return, is_sub_of, sub_name, unit_at, unit_of, unit_or_none, units}
+use Rattle.program_units.specs.Widths.{body_labels, is_kept, labels, labels_before}
+use Rattle.unit_laws.proofs.BlockRoles.{call_neutral, changed-alike}
+use Rattle.unit_laws.proofs.NoAnswer.{no-end, none-at}
+use Rattle.unit_laws.proofs.Kept.{kept-by}
+use Rattle.unit_laws.proofs.MergedDeclared.{merged-declared}
+use Rattle.unit_laws.proofs.ReachedUnits.{some-unit}
 
 -- ---- declarations of lists
 
@@ -105,9 +105,9 @@ module _ (us : List (List Labelled)) (subs : (name : List ℕ) → 0 < unit_of u
       ∙ ap (λ (ts : List Stmt). declarations (piece (copy us (length us)) us (main_context us) (0 + before + 1) s) ++ ts) (main-same next rest)
       ∙ main-piece (0 + before + 1) s (declarations rest)
 
-  pub list-declares : declarations (whole_list us) ≡ declarations (take (declared_first (unit_at us 0)) (unit_at us 0)) ++ (map (λ s. s.stmt) (put_in us) ++ declarations (drop (declared_first (unit_at us 0)) (unit_at us 0)))
+  pub list-declares : declarations (whole_list us) ≡ declarations (take (declared_first (unit_at us 0)) (unit_at us 0)) ++ (map (λ s. s.stmt) (merged us) ++ declarations (drop (declared_first (unit_at us 0)) (unit_at us 0)))
   list-declares =
-      grind (arith, declarations-append, append_assoc, main-same 0 (take (declared_first (unit_at us 0)) (unit_at us 0)), all-declared (put_in us) (put-in-declared us), put-in-declared us, main-same (labels_before us (length us) 0 (declared_first (unit_at us 0))) (drop (declared_first (unit_at us 0)) (unit_at us 0)))
+      grind (arith, declarations-append, append_assoc, main-same 0 (take (declared_first (unit_at us 0)) (unit_at us 0)), all-declared (merged us) (merged-declared us), merged-declared us, main-same (labels_before us (length us) 0 (declared_first (unit_at us 0))) (drop (declared_first (unit_at us 0)) (unit_at us 0)))
 
 pub main-declares : (us : List (List Labelled)) → declarations (unit_at us 0) ≡ declarations (take (declared_first (unit_at us 0)) (unit_at us 0)) ++ declarations (drop (declared_first (unit_at us 0)) (unit_at us 0))
 main-declares us =

@@ -20,19 +20,19 @@ use Rattle.layout_rules.specs.Declarations.{dims_of, dims_or_none, dims_told, ha
 use Rattle.layout_rules.specs.Executables.{kind_or_integer}
 use Rattle.layout_rules.specs.Faults.{answer_or, first_answer}
 use Rattle.layout_rules.specs.Layout.{last_line}
-use Rattle.f77_subs.specs.declared.entity.Entity.{Entity}
-use Rattle.f77_subs.specs.Expansion.{block_size, declared_in, is_running, type_of, whole_list}
+use Rattle.program_units.specs.declared.entity.Entity.{Entity}
+use Rattle.program_units.specs.Expansion.{block_size, declared_in, is_running, type_of, whole_list}
 use Rattle.copied_values.specs.ListedDeclarations.{declarations}
-use Rattle.f77_subs.specs.Names.{appearing_here, name_for, names_of_unit, same_entity, used_names, y_entities}
-use Rattle.f77_subs.specs.Refusals.{has_great_name}
-use Rattle.f77_subs.specs.Units.{unit_at, unit_of}
+use Rattle.program_units.specs.Names.{appearing_here, name_for, names_of_unit, same_entity, used_names, y_entities}
+use Rattle.program_units.specs.Refusals.{has_great_name}
+use Rattle.program_units.specs.Units.{unit_at, unit_of}
 use Rattle.copied_values.proofs.ListedDeclarations.{main-declares}
-use Rattle.copied_values.proofs.ListedNames.{all-declared-too, all-of-stmts, bare-decls, back, dims-declared, first-append, first-none, front, kind-declared, or-none, put-in-answers, told_in}
-use Rattle.f77_subs.proofs.OwnNames.{entities-same}
-use Rattle.f77_subs.proofs.PutInDeclared.{Listed, put-in-parts, put_in_rest, put_in_types, rest-passes, running-listed}
-use Rattle.f77_subs.proofs.SameEntities.{same-itself}
-use Rattle.f77_subs.proofs.ShortNames.{short-apart, short-free}
-use Rattle.f77_subs.proofs.UsedNames.{new-by}
+use Rattle.copied_values.proofs.ListedNames.{all-declared-too, all-of-stmts, bare-decls, back, dims-declared, first-append, first-none, front, kind-declared, or-none, merged-answers, told_in}
+use Rattle.unit_laws.proofs.OwnNames.{entities-same}
+use Rattle.unit_laws.proofs.MergedDeclared.{Listed, merged-parts, merged_rest, merged_types, rest-passes, running-listed}
+use Rattle.unit_laws.proofs.SameEntities.{same-itself}
+use Rattle.unit_laws.proofs.ShortNames.{short-apart, short-free}
+use Rattle.unit_laws.proofs.UsedNames.{new-by}
 
 -- ---- a name that a unit has nowhere
 
@@ -123,10 +123,10 @@ module _ (us : List (List Labelled)) (subs : (name : List ℕ) → 0 < unit_of u
   both-lack : (list_all (lacks y (is_array (unit_at us 0))) (front us subs) ≡ true) × (list_all (lacks y (is_array (unit_at us 0))) (back us subs) ≡ true)
   both-lack = and_parts (list_all (lacks y (is_array (unit_at us 0))) (front us subs)) (list_all (lacks y (is_array (unit_at us 0))) (back us subs)) (sym (list_all-append (lacks y (is_array (unit_at us 0))) (front us subs) (back us subs)) ∙ main-lacks)
 
-  -- the answers are those of what is put in: of the types first
-  types-answer : {B : Type 0} (f : Stmt → Option B) → ((s : Stmt) → lacks y (is_array (unit_at us 0)) s ≡ true → f s ≡ None) → list_all (λ s. not (is_some (f s.stmt))) (put_in_rest us) ≡ true → first_answer f (declarations (whole_list us)) ≡ first_answer f (map (λ s. s.stmt) (put_in_types us))
+  -- the answers are those of what is merged: of the types first
+  types-answer : {B : Type 0} (f : Stmt → Option B) → ((s : Stmt) → lacks y (is_array (unit_at us 0)) s ≡ true → f s ≡ None) → list_all (λ s. not (is_some (f s.stmt))) (merged_rest us) ≡ true → first_answer f (declarations (whole_list us)) ≡ first_answer f (map (λ s. s.stmt) (merged_types us))
   types-answer f none rest =
-      grind (arith, put_in_rest us, put-in-answers us subs f (first-lack y f (lacks y (is_array (unit_at us 0))) none (front us subs) both-lack.0) (first-lack y f (lacks y (is_array (unit_at us 0))) none (back us subs) both-lack.1), first-lack y f (lacks y (is_array (unit_at us 0))) none (front us subs) both-lack.0, front us subs, first-lack y f (lacks y (is_array (unit_at us 0))) none (back us subs) both-lack.1, back us subs, put-in-parts us, map-append, put_in_types us, first-append f, first-none f, all-of-stmts us subs, or-none)
+      grind (arith, merged_rest us, merged-answers us subs f (first-lack y f (lacks y (is_array (unit_at us 0))) none (front us subs) both-lack.0) (first-lack y f (lacks y (is_array (unit_at us 0))) none (back us subs) both-lack.1), first-lack y f (lacks y (is_array (unit_at us 0))) none (front us subs) both-lack.0, front us subs, first-lack y f (lacks y (is_array (unit_at us 0))) none (back us subs) both-lack.1, back us subs, merged-parts us, map-append, merged_types us, first-append f, first-none f, all-of-stmts us subs, or-none)
 
   differs : (x : Entity) → Listed us x → same_entity e x ≡ false → bytes_eq (name_for us x) y ≡ false
   differs x known apart_here = by (bytes_eq (name_for us x) y) refl

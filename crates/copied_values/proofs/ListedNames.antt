@@ -20,14 +20,14 @@ use Rattle.layout_rules.specs.Declarations.{declarators, dims_of, dims_or_none, 
 use Rattle.layout_rules.specs.Executables.{kind_or_integer}
 use Rattle.layout_rules.specs.Faults.{answer_or, first_answer}
 use Rattle.layout_rules.specs.Labels.{is_executable}
-use Rattle.f77_subs.specs.declared.entity.Entity.{Entity}
-use Rattle.f77_subs.specs.declared.entity.Entity.TheVariants.{InBlock}
-use Rattle.f77_subs.specs.Expansion.{common_of, declared_first, declared_in, put_in, type_of, whole_list}
+use Rattle.program_units.specs.declared.entity.Entity.{Entity}
+use Rattle.program_units.specs.declared.entity.Entity.TheVariants.{InBlock}
+use Rattle.program_units.specs.Expansion.{common_of, declared_first, declared_in, merged, type_of, whole_list}
 use Rattle.copied_values.specs.ListedDeclarations.{declarations}
-use Rattle.f77_subs.specs.Names.{name_for}
-use Rattle.f77_subs.specs.Units.{unit_at, unit_of}
+use Rattle.program_units.specs.Names.{name_for}
+use Rattle.program_units.specs.Units.{unit_at, unit_of}
 use Rattle.copied_values.proofs.ListedDeclarations.{list-declares, main-declares}
-use Rattle.f77_subs.proofs.PutInDeclared.{Listed, put-in-passes}
+use Rattle.unit_laws.proofs.MergedDeclared.{Listed, merged-passes}
 use Rattle.std.proofs.Common.{arith}
 
 -- ---- first answers
@@ -105,7 +105,7 @@ module _ (us : List (List Labelled)) (subs : (name : List ℕ) → 0 < unit_of u
   front = declarations (take (declared_first (unit_at us 0)) (unit_at us 0))
 
   abbrev pub middle : List Stmt
-  middle = map (λ s. s.stmt) (put_in us)
+  middle = map (λ s. s.stmt) (merged us)
 
   abbrev pub back : List Stmt
   back = declarations (drop (declared_first (unit_at us 0)) (unit_at us 0))
@@ -113,17 +113,17 @@ module _ (us : List (List Labelled)) (subs : (name : List ℕ) → 0 < unit_of u
   list-parts : declarations (whole_list us) ≡ front ++ (middle ++ back)
   list-parts = list-declares us subs
 
-  -- where nothing that is put in answers, the main program does
+  -- where nothing that is merged answers, the main program does
   main-answers : {B : Type 0} (f : Stmt → Option B) → first_answer f middle ≡ None → first_answer f (declarations (whole_list us)) ≡ first_answer f (declarations (unit_at us 0))
   main-answers f none =
       grind (arith, list-parts, first-append f front (middle ++ back), first-append f middle back, first-append f front back, main-declares us)
 
-  -- where the main program doesn't answer, what is put in does
-  pub put-in-answers : {B : Type 0} (f : Stmt → Option B) → first_answer f front ≡ None → first_answer f back ≡ None → first_answer f (declarations (whole_list us)) ≡ first_answer f middle
-  put-in-answers f none_front none_back =
+  -- where the main program doesn't answer, what is merged does
+  pub merged-answers : {B : Type 0} (f : Stmt → Option B) → first_answer f front ≡ None → first_answer f back ≡ None → first_answer f (declarations (whole_list us)) ≡ first_answer f middle
+  merged-answers f none_front none_back =
       grind (arith, list-parts, first-append f front (middle ++ back), first-append f middle back, or-none (first_answer f middle))
 
-  -- ---- what is put in names no other names
+  -- ---- what is merged names no other names
 
   pub all-of-stmts : (test : Stmt → Bool) (xs : List Labelled) → list_all (λ s. test s.stmt) xs ≡ list_all test (map (λ s. s.stmt) xs)
   all-of-stmts test [] = refl
@@ -142,8 +142,8 @@ module _ (us : List (List Labelled)) (subs : (name : List ℕ) → 0 < unit_of u
 
     none-put : {B : Type 0} (f : Stmt → Option B) → ((line : ℕ) (e : Entity) → Listed us e → f (type_of us line e).stmt ≡ None) → ((line : ℕ) (block : Option (List ℕ)) → f (common_of us line block).stmt ≡ None) → ((groups : List (List Member)) → f (Equivalence groups) ≡ None) → ((parts : List InitPart) → f (Init parts) ≡ None) → first_answer f middle ≡ None
     none-put f types commons groups inits =
-        first-none f middle (sym (all-of-stmts (λ s. not (is_some (f s))) (put_in us))
-        ∙ put-in-passes us (λ s. not (is_some (f s.stmt))) (λ line block. ap (λ (o : Option _). not (is_some o)) (commons line block)) (λ line g. ap (λ (o : Option _). not (is_some o)) (groups g)) (λ line i. ap (λ (o : Option _). not (is_some o)) (inits i)) (λ line e listed. ap (λ (o : Option _). not (is_some o)) (types line e listed)))
+        first-none f middle (sym (all-of-stmts (λ s. not (is_some (f s))) (merged us))
+        ∙ merged-passes us (λ s. not (is_some (f s.stmt))) (λ line block. ap (λ (o : Option _). not (is_some o)) (commons line block)) (λ line g. ap (λ (o : Option _). not (is_some o)) (groups g)) (λ line i. ap (λ (o : Option _). not (is_some o)) (inits i)) (λ line e listed. ap (λ (o : Option _). not (is_some o)) (types line e listed)))
 
     typed-other : (line : ℕ) (e : Entity) → Listed us e → kind_typed x (type_of us line e).stmt ≡ None
     typed-other line e listed = ap (λ (b : Bool). if b || false then Some (kind_or_integer (kind_of (declared_in us e).0 (declared_in us e).1)) else None) (differs e listed)
@@ -152,7 +152,7 @@ module _ (us : List (List Labelled)) (subs : (name : List ℕ) → 0 < unit_of u
     told-other line e listed = ap (λ (b : Bool). answer_or (if b && has_dims (record { name = name_for us e; dims = dims_of (declared_in us e).0 (declared_in us e).1 }) then Some (dims_of (declared_in us e).0 (declared_in us e).1) else None) None) (differs e listed)
 
     no-implicit : list_any is_implicit_none middle ≡ false
-    no-implicit = none-any middle (sym (all-of-stmts (λ s. not (is_implicit_none s)) (put_in us)) ∙ put-in-passes us (λ s. not (is_implicit_none s.stmt)) (λ line block. refl) (λ line g. refl) (λ line i. refl) (λ line e listed. refl))
+    no-implicit = none-any middle (sym (all-of-stmts (λ s. not (is_implicit_none s)) (merged us)) ∙ merged-passes us (λ s. not (is_implicit_none s.stmt)) (λ line block. refl) (λ line g. refl) (λ line i. refl) (λ line e listed. refl))
       where
         none-any : (ts : List Stmt) → list_all (λ s. not (is_implicit_none s)) ts ≡ true → list_any is_implicit_none ts ≡ false
         none-any [] all = refl

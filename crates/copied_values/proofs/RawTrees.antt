@@ -8,7 +8,7 @@ use Rattle.f77_tree.specs.declared.programs.NameInfo.{NameInfo}
 use Rattle.f77_tree.specs.declared.statements.RawExpr.{RawExpr, Call, Apply, Row_of-RawExpr, end_of-RawExpr, more_of-RawExpr, items-the_row-RawExpr, items_hidden-the_row-RawExpr-0}
 use Rattle.f77_tree.specs.Declarations.{index_of}
 use Rattle.layout_rules.specs.Resolved.{access_of, in_dialect, nested, resolved, resolved_call, resolved_row}
-use Rattle.f77_subs.specs.Copies.{pairs}
+use Rattle.program_units.specs.Copies.{pairs}
 use Rattle.layout_rules.proofs.RawRows.{row_of}
 use Rattle.std.proofs.Common.{arith}
 

@@ -7,7 +7,7 @@ use Rattle.f77_tree.specs.declared.statements.RawExpr.TheVariants.{Named, Call'}
 use Rattle.f77_tree.specs.Declarations.{index_of}
 use Rattle.f77_tree.specs.Value.{place_of, size_of, word_at}
 use Rattle.layout_rules.specs.Types.{dims_named, kind_named, is_array_in, is_intrinsic}
-use Rattle.f77_subs.specs.Copies.{Change}
+use Rattle.program_units.specs.Copies.{Change}
 
 -- a name of one table is known by this name in the other one: it has the same kind and dimensions there
 pub record IsKnownAs (names others : List NameInfo) (x y : List ℕ) : Type 0 where

@@ -6,7 +6,7 @@ use Rattle.f77_tree.specs.Execution.{Memory, Outcome, Goes, Stops, Ends}
 use Rattle.f77_tree.specs.Value.{ArePlaced, place_of, size_of, word_at}
 use Rattle.layout_rules.specs.Types.{dims_named}
 use Rattle.copied_values.specs.ChangedTables.{AreChangedTables, AreKnown}
-use Rattle.f77_subs.specs.Copies.{Change}
+use Rattle.program_units.specs.Copies.{Change}
 
 -- which numbers are paired, by a test
 abbrev pub Are : (ℕ → ℕ → Bool) → (ℕ → ℕ → Type 0)

@@ -15,7 +15,7 @@ ghost use Rattle.layout_rules.specs.Appearances.{names_in, names_in_item, names_
 ghost use Rattle.layout_rules.specs.Executables.{kind_or_integer};
 ghost use Rattle.layout_rules.specs.Resolved.{access_of, resolved, resolved_item, resolved_step};
 ghost use Rattle.layout_rules.specs.Types.{is_array_in, is_item, is_of_kind, is_target, is_well_kinded, kind_in};
-ghost use Rattle.f77_subs.specs.Copies.{Change, changed, changed_item, changed_step};
+ghost use Rattle.program_units.specs.Copies.{Change, changed, changed_item, changed_step};
 ghost use Rattle.copied_values.specs.SideBySide.{Are, AreSideBySide, AreTied, GoAlike, with_pair};
 
 /// An executable of a unit and that of its copy, over tables and memories that are side by side: control goes on to executables

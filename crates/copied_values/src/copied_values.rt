@@ -18,9 +18,9 @@ ghost use Rattle.layout_rules.specs.Layout.{names_of, program};
 ghost use Rattle.layout_rules.specs.Resolved.{access_of, resolved, resolved_item, resolved_step};
 ghost use Rattle.layout_rules.specs.Types.{dims_named, is_item, is_step, is_target, kind_in};
 ghost use Rattle.copied_values.specs.ChangedTables.{AreChangedTables, AreHeld, AreKnown, AreSameElement, IsKnownAs, target_name};
-ghost use Rattle.f77_subs.specs.Copies.{Change, changed, changed_item, changed_step};
-ghost use Rattle.f77_subs.specs.declared.entity.Entity.{Entity};
-ghost use Rattle.f77_subs.specs.Storage.{placed};
+ghost use Rattle.program_units.specs.Copies.{Change, changed, changed_item, changed_step};
+ghost use Rattle.program_units.specs.declared.entity.Entity.{Entity};
+ghost use Rattle.program_units.specs.Storage.{placed};
 
 /// Expressions of a unit and of its copy, over two tables of names and two stores in which the names of the expression, as the
 /// copy has them, have the same kinds, dimensions and words. They have the same kind and the same value, or the same trap.

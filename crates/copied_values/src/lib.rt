@@ -1,4 +1,4 @@
-//! Copies of units keep their declarations, values and steps: laws over the definitions of `f77_subs`. No code of the compiler is here.
+//! Copies of units keep their declarations, values and steps: laws over the definitions of `program_units`. No code of the compiler is here.
 #![tactic(auto)]
 
 mod copied_steps;

@@ -5,21 +5,21 @@ ghost use Rattle.std.specs.List.{list_all, list_any};
 ghost use Rattle.f77_tree.specs.declared.statements.Labelled.{Labelled};
 ghost use Rattle.layout_rules.specs.Declarations.{dims_of, kind_of};
 ghost use Rattle.layout_rules.specs.Executables.{kind_or_integer};
-ghost use Rattle.f77_subs.specs.declared.entity.Entity.{Entity};
-ghost use Rattle.f77_subs.specs.Expansion.{declared_first, declared_in, is_running, put_in, whole_list};
+ghost use Rattle.program_units.specs.declared.entity.Entity.{Entity};
+ghost use Rattle.program_units.specs.Expansion.{declared_first, declared_in, is_running, merged, whole_list};
 ghost use Rattle.copied_values.specs.ListedDeclarations.{declarations};
-ghost use Rattle.f77_subs.specs.Names.{name_for, same_entity, used_names, y_entities};
-ghost use Rattle.f77_subs.specs.Refusals.{has_great_name, unit_refusal};
-ghost use Rattle.f77_subs.specs.Texts.{IsText};
-ghost use Rattle.f77_subs.specs.Units.{unit_at, unit_of, units};
+ghost use Rattle.program_units.specs.Names.{name_for, same_entity, used_names, y_entities};
+ghost use Rattle.program_units.specs.Refusals.{has_great_name, unit_refusal};
+ghost use Rattle.program_units.specs.Texts.{IsText};
+ghost use Rattle.program_units.specs.Units.{unit_at, unit_of, units};
 
-/// The declarations of the list are those of the main program, as they are, and what is put in; copies have none.
+/// The declarations of the list are those of the main program, as they are, and what is merged; copies have none.
 pub fn lists_declare()
     ensures subs { (stmts : List Labelled) (checked : Bool) → IsText stmts → unit_refusal stmts checked ≡ None
         → (name : List ℕ) → 0 < unit_of (units stmts) name }
     ensures list { (us : List (List Labelled)) → ((name : List ℕ) → 0 < unit_of us name)
         → declarations (whole_list us) ≡ declarations (take (declared_first (unit_at us 0)) (unit_at us 0)) ++
-        (map (λ s. s.stmt) (put_in us) ++ declarations (drop (declared_first (unit_at us 0)) (unit_at us 0))) }
+        (map (λ s. s.stmt) (merged us) ++ declarations (drop (declared_first (unit_at us 0)) (unit_at us 0))) }
     ensures main { (us : List (List Labelled))
         → declarations (unit_at us 0) ≡ declarations (take (declared_first (unit_at us 0)) (unit_at us 0)) ++ declarations
         (drop (declared_first (unit_at us 0)) (unit_at us 0)) }

@@ -18,11 +18,11 @@ use Rattle.layout_rules.specs.TypeFaults.{has_wrong_type, implies_twice, is_besi
 use Rattle.layout_rules.specs.Types.{is_array_in, is_well_kinded}
 use Rattle.control_structure.proofs.LabelLemmas.{faultless}
 use Rattle.layout_rules.proofs.NameTable.{arrays_in_table}
-use Rattle.f77_subs.specs.Refusals.{unit_refusal}
-use Rattle.f77_subs.specs.Texts.{IsText}
-use Rattle.f77_subs.specs.Units.{stand_in, standing_in, unit_at, unit_or_none, units}
-use Rattle.f77_subs.proofs.NoAnswer.{laid, line-none, none-at}
-use Rattle.f77_subs.proofs.UnitSources.{unit-source}
+use Rattle.program_units.specs.Refusals.{unit_refusal}
+use Rattle.program_units.specs.Texts.{IsText}
+use Rattle.program_units.specs.Units.{stand_in, standing_in, unit_at, unit_or_none, units}
+use Rattle.unit_laws.proofs.NoAnswer.{laid, line-none, none-at}
+use Rattle.unit_laws.proofs.UnitSources.{unit-source}
 use Rattle.expanded_sources.proofs.HeldPieces.{IsInUnit}
 
 -- ---- what stands in for a unit has its arrays

@@ -25,8 +25,8 @@ use Rattle.layout_rules.specs.Tables.{has_simple_inner, is_simple}
 use Rattle.layout_rules.specs.Types.{is_array_in, is_item, is_kind, is_kind_of_target, is_of_kind, is_step, is_target, is_variable, is_well_kinded, kind_in, kind_named}
 use Rattle.layout_rules.proofs.NamesOf.{appearing-ThenIf}
 use Rattle.control_structure.proofs.OwnExecutables.{guarded_simple}
-use Rattle.f77_subs.specs.Copies.{Change, changed, changed_item, changed_step, changed_stmt}
-use Rattle.f77_subs.specs.Units.{call_by, call_in, guard_of, stand_in, stand_in_alone, sub_name}
+use Rattle.program_units.specs.Copies.{Change, changed, changed_item, changed_step, changed_stmt}
+use Rattle.program_units.specs.Units.{call_by, call_in, guard_of, stand_in, stand_in_alone, sub_name}
 use Rattle.expanded_sources.proofs.ChangedExpressions.{AreNew, changed-names, changed-reading, some-kind, stays}
 use Rattle.expanded_sources.proofs.Labelling.{HasLabels}
 use Rattle.expanded_sources.proofs.ReadRows.{AreNames, joined, parted}

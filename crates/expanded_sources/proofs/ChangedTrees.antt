@@ -14,12 +14,12 @@ use Rattle.layout_rules.specs.Declarations.{is_array}
 use Rattle.layout_rules.specs.Layout.{names_of}
 use Rattle.layout_rules.specs.StatementTrees.{IsTree}
 use Rattle.layout_rules.proofs.NamesOf.{appearing-ThenIf}
-use Rattle.f77_subs.specs.Copies.{Context, changed, changed_stmt, changes}
-use Rattle.f77_subs.specs.Entities.{stands_for}
-use Rattle.f77_subs.specs.Names.{appearing_here, name_for}
-use Rattle.f77_subs.specs.Refusals.{unit_refusal}
-use Rattle.f77_subs.specs.Texts.{IsText}
-use Rattle.f77_subs.specs.Units.{call_in, guard_of, stand_in, stand_in_alone, standing_in, sub_name, unit_at, units}
+use Rattle.program_units.specs.Copies.{Context, changed, changed_stmt, changes}
+use Rattle.program_units.specs.Entities.{stands_for}
+use Rattle.program_units.specs.Names.{appearing_here, name_for}
+use Rattle.program_units.specs.Refusals.{unit_refusal}
+use Rattle.program_units.specs.Texts.{IsText}
+use Rattle.program_units.specs.Units.{call_in, guard_of, stand_in, stand_in_alone, standing_in, sub_name, unit_at, units}
 use Rattle.expanded_sources.proofs.AcceptedKinds.{stands-arrays, unit-kinds, unit-of-it, unit-tree}
 use Rattle.expanded_sources.proofs.ChangedExpressions.{AreNew, stays}
 use Rattle.expanded_sources.proofs.ChangedStatements.{changed-is-tree, head-is-tree}
@@ -28,7 +28,7 @@ use Rattle.expanded_sources.proofs.HeldPieces.{IsInUnit}
 use Rattle.expanded_sources.proofs.Labelling.{HasLabels}
 use Rattle.expanded_sources.proofs.ReadRows.{parted}
 use Rattle.expanded_sources.proofs.SymbolicTexts.{all-members}
-use Rattle.f77_subs.proofs.UnitNames.{appears}
+use Rattle.unit_laws.proofs.UnitNames.{appears}
 
 -- ---- the names of what stands in for a statement are names of it
 

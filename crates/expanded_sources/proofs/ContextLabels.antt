@@ -4,11 +4,11 @@ use Rattle.std.specs.List.{slice_get}
 use Rattle.std.proofs.lemmas.List.Sums.{sum_by-take-le}
 use Rattle.f77_tree.specs.declared.statements.Labelled.{Labelled}
 use Rattle.layout_rules.specs.Labels.{statement_of}
-use Rattle.f77_subs.specs.Copies.{Context, call_at, changes, end_by, number_at}
-use Rattle.f77_subs.specs.Units.{Call, call_in, unit_at, unit_of}
-use Rattle.f77_subs.specs.Widths.{body_labels, is_kept, labels, labels_by}
-use Rattle.f77_subs.proofs.Kept.{kept_or_none}
-use Rattle.f77_subs.proofs.PieceLabels.{number-within}
+use Rattle.program_units.specs.Copies.{Context, call_at, changes, end_by, number_at}
+use Rattle.program_units.specs.Units.{Call, call_in, unit_at, unit_of}
+use Rattle.program_units.specs.Widths.{body_labels, is_kept, labels, labels_by}
+use Rattle.unit_laws.proofs.Kept.{kept_or_none}
+use Rattle.unit_laws.proofs.PieceLabels.{number-within}
 use Rattle.expanded_sources.proofs.Labelling.{HasLabels}
 
 -- all labels of the copy are at most so many

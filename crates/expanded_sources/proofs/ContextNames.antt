@@ -10,26 +10,26 @@ use Rattle.f77_tree.specs.Name.{is_name}
 use Rattle.f77_tree.specs.declared.statements.Labelled.{Labelled}
 use Rattle.layout_rules.specs.Declarations.{is_array}
 use Rattle.layout_rules.specs.Faults.{first_line}
-use Rattle.f77_subs.specs.declared.sub_end.SubEnd.TheVariants.{BadCall, UnitOrder}
-use Rattle.f77_subs.specs.declared.entity.Entity.{Entity}
-use Rattle.f77_subs.specs.Entities.{entity_at, entity_of, stands_for}
-use Rattle.f77_subs.specs.Names.{appearing_here, name_for, names_of_unit}
-use Rattle.f77_subs.specs.Refusals.{end_at, has_bad_call, is_out_of_unit, unit_refusal, unit_refusals}
-use Rattle.f77_subs.specs.Texts.{IsText}
-use Rattle.f77_subs.specs.Units.{Call, call_in, dummies_of, unit_at, unit_of, units}
-use Rattle.f77_subs.specs.UnitTables.{passes}
-use Rattle.f77_subs.proofs.AcceptedTables.{fit, main-dummies}
-use Rattle.f77_subs.proofs.CalledNames.{call-names}
-use Rattle.f77_subs.proofs.MainNames.{main-own}
-use Rattle.f77_subs.proofs.NoAnswer.{no-end, none-at}
-use Rattle.f77_subs.proofs.ReachedUnits.{first-inside, none-past}
-use Rattle.f77_subs.proofs.SettledCopies.{pass_at}
+use Rattle.program_units.specs.declared.sub_end.SubEnd.TheVariants.{BadCall, UnitOrder}
+use Rattle.program_units.specs.declared.entity.Entity.{Entity}
+use Rattle.program_units.specs.Entities.{entity_at, entity_of, stands_for}
+use Rattle.program_units.specs.Names.{appearing_here, name_for, names_of_unit}
+use Rattle.program_units.specs.Refusals.{end_at, has_bad_call, is_out_of_unit, unit_refusal, unit_refusals}
+use Rattle.program_units.specs.Texts.{IsText}
+use Rattle.program_units.specs.Units.{Call, call_in, dummies_of, unit_at, unit_of, units, passes}
+use Rattle.unit_laws.proofs.AcceptedTables.{fit, main-dummies}
+use Rattle.unit_laws.proofs.CalledNames.{call-names}
+use Rattle.unit_laws.proofs.MainNames.{main-own}
+use Rattle.unit_laws.proofs.NoAnswer.{no-end, none-at}
+use Rattle.unit_laws.proofs.ReachedUnits.{none-past}
+use Rattle.program_units.proofs.Counting.{first-inside}
+use Rattle.unit_laws.proofs.SettledCopies.{pass_at}
 use Rattle.expanded_sources.proofs.AcceptedKinds.{unit-of-it}
 use Rattle.expanded_sources.proofs.ChangedStatements.{positive}
 use Rattle.expanded_sources.proofs.HeldPieces.{IsInUnit}
 use Rattle.expanded_sources.proofs.NewNames.{own-name}
 use Rattle.expanded_sources.proofs.SymbolicTexts.{all-members, member-passes, names-named}
-use Rattle.f77_subs.proofs.UnitNames.{appears, own-of}
+use Rattle.unit_laws.proofs.UnitNames.{appears, own-of}
 
 -- ---- lists
 

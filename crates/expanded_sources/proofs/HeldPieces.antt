@@ -1,5 +1,5 @@
 -- What holds of each statement of the list of a text, piece by piece.
-pub use Rattle.f77_subs.proofs.UnitNames.{IsInUnit}
+pub use Rattle.unit_laws.proofs.UnitNames.{IsInUnit}
 use Rattle.std.proofs.Common.{◌≡◌, ℕ, zero, suc, ◌+◌, Bool, true, false, List, [], ◌∷◌, ◌++◌, map, flat_map, take, drop, length, Option, Some, None, if◌then◌else◌, refl, sym, ap, subst, ◌∙◌, arith}
 use Rattle.std.specs.List.{list_all, slice_get}
 use Rattle.std.proofs.lemmas.Bool.{and_parts}
@@ -8,14 +8,14 @@ use Rattle.f77_tree.specs.declared.statements.Labelled.{Labelled}
 use Rattle.f77_tree.specs.declared.statements.RawExpr.{RawExpr}
 use Rattle.f77_tree.specs.declared.statements.Stmt.{Stmt}
 use Rattle.f77_tree.specs.declared.statements.Stmt.TheVariants.{BlockIf, Continue, EndIf}
-use Rattle.f77_subs.specs.Copies.{Context, around, bare, changed, changed_stmt, changes, copy, number_at, piece, piece_by, pieces}
-use Rattle.f77_subs.specs.declared.entity.Entity.{Entity}
-use Rattle.f77_subs.specs.Entities.{stands_for}
-use Rattle.f77_subs.specs.Expansion.{declared_first, main_context, main_pieces, put_in, whole_list}
-use Rattle.f77_subs.specs.Units.{Call, call_in, guard_of, unit_at, unit_of}
-use Rattle.f77_subs.specs.Widths.{body_labels, is_kept, labels, labels_before}
-use Rattle.f77_subs.proofs.Having.{get-drop, get-front, sum-next}
-use Rattle.f77_subs.proofs.UnitSources.{Each}
+use Rattle.program_units.specs.Copies.{Context, around, bare, changed, changed_stmt, changes, copy, number_at, piece, piece_by, pieces}
+use Rattle.program_units.specs.declared.entity.Entity.{Entity}
+use Rattle.program_units.specs.Entities.{stands_for}
+use Rattle.program_units.specs.Expansion.{declared_first, main_context, main_pieces, merged, whole_list}
+use Rattle.program_units.specs.Units.{Call, call_in, guard_of, unit_at, unit_of}
+use Rattle.program_units.specs.Widths.{body_labels, is_kept, labels, labels_before}
+use Rattle.unit_laws.proofs.Having.{get-drop, get-front, sum-next}
+use Rattle.unit_laws.proofs.UnitSources.{Each}
 
 module _ (Q : Stmt → Type 0) where
   abbrev pub Whole : List Labelled → Type 0
@@ -131,11 +131,11 @@ module _ (us : List (List Labelled)) (Q : Stmt → Type 0) (R : Context → Type
       ∙ ap (λ (xs : List Labelled). slice_get xs j) (sym (take-append-drop p main))
       ∙ get-front (take p main) (drop p main) j s there
 
-  pub list-holds : R (main_context us) → Whole Q (put_in us) → Whole Q (whole_list us)
+  pub list-holds : R (main_context us) → Whole Q (merged us) → Whole Q (whole_list us)
   list-holds can put =
       let p = declared_first main in
       let before = labels_before us (length us) 0 p in
       let first = main_pieces us 0 (take p main) in
       let second = main_pieces us before (drop p main) in
       let all = pieces-hold (main_context us) can (copies-hold (length us)) in
-      whole-append Q (first ++ put_in us) second (whole-append Q first (put_in us) (all 0 0 (take p main) refl (front p)) put) (all p before (drop p main) refl (λ j s there. sym (get-drop main p j) ∙ there))
+      whole-append Q (first ++ merged us) second (whole-append Q first (merged us) (all 0 0 (take p main) refl (front p)) put) (all p before (drop p main) refl (λ j s there. sym (get-drop main p j) ∙ there))

@@ -1,7 +1,7 @@
 -- The labels that a copy's statements name.
 use Rattle.std.proofs.Common.{ℕ}
 use Rattle.layout_rules.specs.Labels.{IsLabel}
-use Rattle.f77_subs.specs.Copies.{Change}
+use Rattle.program_units.specs.Copies.{Change}
 
 -- whatever label is changed, the new one is a label
 pub record HasLabels (c : Change) : Type 0 where

@@ -11,20 +11,20 @@ use Rattle.layout_rules.specs.Faults.{first_answer}
 use Rattle.layout_rules.specs.Order.{rank}
 use Rattle.layout_rules.specs.Source.{EndsWithEnd}
 use Rattle.layout_rules.proofs.FirstLine.{first_answer-append}
-use Rattle.f77_subs.specs.declared.sub_end.SubEnd.{SubEnd}
-use Rattle.f77_subs.specs.Copies.{Copying, copy, piece, pieces}
-use Rattle.f77_subs.specs.Expansion.{declared_first, main_context, main_pieces, put_in, total_width, whole_list}
-use Rattle.f77_subs.specs.Refusals.{expansion, form_refusals, has_great_name, list_unless, size_refusals, unit_refusal}
-use Rattle.f77_subs.specs.Texts.{IsText}
-use Rattle.f77_subs.specs.Units.{unit_at, units}
-use Rattle.f77_subs.specs.Widths.{body_labels, labels, labels_before, labels_written}
-use Rattle.f77_subs.proofs.AcceptedTexts.{some-unit}
-use Rattle.f77_subs.proofs.NoAnswer.{answer-none}
-use Rattle.f77_subs.proofs.CopyWidths.{whole_length}
-use Rattle.f77_subs.proofs.PieceLabels.{whole-labels}
-use Rattle.f77_subs.proofs.SizesMet.{none-wide}
-use Rattle.f77_subs.proofs.UnitSources.{IsUnit, LastIsEnd, all-of, from-last, last-more, text-unit}
-use Rattle.f77_subs.proofs.UnitsMet.{unit-there}
+use Rattle.program_units.specs.declared.sub_end.SubEnd.{SubEnd}
+use Rattle.program_units.specs.Copies.{Copying, copy, piece, pieces}
+use Rattle.program_units.specs.Expansion.{declared_first, main_context, main_pieces, merged, total_width, whole_list}
+use Rattle.program_units.specs.Refusals.{expansion, form_refusals, has_great_name, list_unless, size_refusals, unit_refusal}
+use Rattle.program_units.specs.Texts.{IsText}
+use Rattle.program_units.specs.Units.{unit_at, units}
+use Rattle.program_units.specs.Widths.{body_labels, labels, labels_before, labels_written}
+use Rattle.unit_laws.proofs.AcceptedTexts.{some-unit}
+use Rattle.unit_laws.proofs.NoAnswer.{answer-none}
+use Rattle.unit_laws.proofs.CopyWidths.{whole_length}
+use Rattle.unit_laws.proofs.PieceLabels.{whole-labels}
+use Rattle.unit_laws.proofs.SizesMet.{none-wide}
+use Rattle.unit_laws.proofs.UnitSources.{IsUnit, LastIsEnd, all-of, from-last, last-more, text-unit}
+use Rattle.program_units.proofs.UnitsMet.{unit-there}
 
 -- ---- what an answer tells
 
@@ -120,7 +120,7 @@ whole-last us e =
     let p = declared_first main in
     let before = labels_before us (length us) 0 p in
     let front = main_pieces us 0 (take p main) in
-    last-behind (front ++ put_in us) (main_pieces us before (drop p main)) (last-piece us (copy us (length us)) before (drop p main) (late-part main e))
+    last-behind (front ++ merged us) (main_pieces us before (drop p main)) (last-piece us (copy us (length us)) before (drop p main) (late-part main e))
 
 -- ---- a text
 

@@ -10,23 +10,23 @@ use Rattle.f77_tree.specs.declared.declarations.CommonPart.{CommonPart}
 use Rattle.f77_tree.specs.declared.statements.Labelled.{Labelled}
 use Rattle.layout_rules.specs.Declarations.{all_commons}
 use Rattle.layout_rules.specs.Faults.{answer_or, first_answer}
-use Rattle.f77_subs.specs.declared.sub_end.SubEnd.TheVariants.{BadBlock, TooManyNames}
-use Rattle.f77_subs.specs.declared.entity.Entity.{Entity}
-use Rattle.f77_subs.specs.declared.entity.Entity.TheVariants.{InBlock}
-use Rattle.f77_subs.specs.Entities.{block_list, entity_of, entity_or, found_in}
-use Rattle.f77_subs.specs.Names.{free_numbers, has_block, is_main, main_name, name_for, own_names, same_entity, y_entities, y_name}
-use Rattle.f77_subs.specs.Refusals.{are_alike, bad_block, end_at, first_unit, first_with, has_great_name, is_odd_part, main_line_if, unit_refusal, unit_refusals}
-use Rattle.f77_subs.specs.Texts.{IsText}
-use Rattle.f77_subs.specs.Units.{unit_at, units}
-use Rattle.f77_subs.proofs.AcceptedTables.{alike-lengths, not-not}
-use Rattle.f77_subs.proofs.MainNames.{Tells, in-first, later, named}
-use Rattle.f77_subs.proofs.NoAnswer.{each-none, no-end, no-line, none-at}
-use Rattle.f77_subs.proofs.NotedEntities.{noted}
-use Rattle.f77_subs.proofs.ReachedUnits.{first-inside}
-use Rattle.f77_subs.proofs.SettledCopies.{pass_at}
-use Rattle.f77_subs.proofs.ShortNames.{none-passes, numbered-short, taken-at}
-use Rattle.f77_subs.proofs.TextNames.{text-short}
-use Rattle.f77_subs.proofs.NumberedNames.{y-text-named}
+use Rattle.program_units.specs.declared.sub_end.SubEnd.TheVariants.{BadBlock, TooManyNames}
+use Rattle.program_units.specs.declared.entity.Entity.{Entity}
+use Rattle.program_units.specs.declared.entity.Entity.TheVariants.{InBlock}
+use Rattle.program_units.specs.Entities.{block_list, entity_of, entity_or, found_in}
+use Rattle.program_units.specs.Names.{free_numbers, has_block, is_main, main_name, name_for, own_names, same_entity, y_entities, y_name}
+use Rattle.program_units.specs.Refusals.{are_alike, bad_block, end_at, first_unit, first_with, has_great_name, is_mismatched_part, main_line_if, unit_refusal, unit_refusals}
+use Rattle.program_units.specs.Texts.{IsText}
+use Rattle.program_units.specs.Units.{unit_at, units}
+use Rattle.unit_laws.proofs.AcceptedTables.{alike-lengths, not-not}
+use Rattle.unit_laws.proofs.MainNames.{Tells, in-first, later, named}
+use Rattle.unit_laws.proofs.NoAnswer.{each-none, no-end, no-line, none-at}
+use Rattle.unit_laws.proofs.NotedEntities.{noted}
+use Rattle.program_units.proofs.Counting.{first-inside}
+use Rattle.unit_laws.proofs.SettledCopies.{pass_at}
+use Rattle.unit_laws.proofs.ShortNames.{none-passes, numbered-short, taken-at}
+use Rattle.unit_laws.proofs.TextNames.{text-short}
+use Rattle.entity_names.proofs.NumberedNames.{y-text-named}
 use Rattle.expanded_sources.proofs.SymbolicTexts.{block-named, each-unit}
 
 not-great : (us : List (List Labelled)) (great : Bool) → main_line_if us great ≡ None → great ≡ false
@@ -65,17 +65,17 @@ module _ (stmts : List Labelled) (checked : Bool) (text : IsText stmts) (accepte
 
   -- ---- names of the main program's blocks
 
-  none-odd : (k : ℕ) → list_any (is_odd_part us (unit_at us k)) (all_commons (unit_at us k)) ≡ false
-  none-odd k =
+  none-mismatched : (k : ℕ) → list_any (is_mismatched_part us (unit_at us k)) (all_commons (unit_at us k)) ≡ false
+  none-mismatched k =
       let line : Option ℕ = first_answer (bad_block us) us in
       let none : line ≡ None = no-end BadBlock line (none-at (unit_refusals stmts us checked) 5 (end_at BadBlock line) accepted refl) in
-      each-unit stmts text (λ (u : List Labelled). list_any (is_odd_part us u) (all_commons u) ≡ false) refl (λ j u at. no-line (list_any (is_odd_part us u) (all_commons u)) u (each-none (bad_block us) us none j u at)) k
+      each-unit stmts text (λ (u : List Labelled). list_any (is_mismatched_part us u) (all_commons u) ≡ false) refl (λ j u at. no-line (list_any (is_mismatched_part us u) (all_commons u)) u (each-none (bad_block us) us none j u at)) k
 
   module _ (k : ℕ) (x : List ℕ) (some : 0 < k) where
     abbrev u : List Labelled
     u = unit_at us k
 
-    in-block : (part : CommonPart) → is_odd_part us u part ≡ false → has_block (unit_at us 0) part.block ≡ true → list_any (bytes_eq x) (block_list u part.block) ≡ true
+    in-block : (part : CommonPart) → is_mismatched_part us u part ≡ false → has_block (unit_at us 0) part.block ≡ true → list_any (bytes_eq x) (block_list u part.block) ≡ true
         → is_name (name_for us (InBlock part.block (position_or_len (bytes_eq x) (block_list u part.block)))) ≡ true
     in-block part even has among =
         let block = part.block in
@@ -91,13 +91,13 @@ module _ (stmts : List Labelled) (checked : Bool) (text : IsText stmts) (accepte
         ∙ ap is_name (main-at us block place (get_or mains place []) at)
         ∙ pass_at is_name mains place (get_or mains place []) (block-named stmts text 0 block) at
 
-    by-parts : (parts : List CommonPart) → ((block : Option (List ℕ)) → Tells parts x block → Tells (all_commons u) x block) → list_any (is_odd_part us u) parts ≡ false
+    by-parts : (parts : List CommonPart) → ((block : Option (List ℕ)) → Tells parts x block → Tells (all_commons u) x block) → list_any (is_mismatched_part us u) parts ≡ false
         → is_main us (entity_or k x (first_answer (found_in u x) parts)) ≡ true → is_name (name_for us (entity_or k x (first_answer (found_in u x) parts))) ≡ true
     by-parts [] whole even main = let none : k ≡ 0 = eqb-true k 0 main in absurd (omega (arith, some, none))
     by-parts (part ∷ parts) whole even main =
         let place = position_or_len (bytes_eq x) (block_list u part.block) in
         let made : Bool → Entity = λ b. entity_or k x (answer_or (if b then Some (InBlock part.block place) else None) (first_answer (found_in u x) parts)) in
-        let each = or_parts (is_odd_part us u part) (list_any (is_odd_part us u) parts) even in
+        let each = or_parts (is_mismatched_part us u part) (list_any (is_mismatched_part us u) parts) even in
         ⊎_elim
         (λ (is : list_any (named x) part.decls ≡ true).
         subst (λ (b : Bool). is_main us (made b) ≡ true → is_name (name_for us (made b)) ≡ true) (sym is) (λ has. in-block part each.0 has (Tells.among (whole part.block (in-first x part parts is)))) main)
@@ -111,5 +111,5 @@ module _ (stmts : List Labelled) (checked : Bool) (text : IsText stmts) (accepte
     own-name below own = by (is_main us (entity_of us k x)) refl
       where
         by : (b : Bool) → is_main us (entity_of us k x) ≡ b → is_name (name_for us (entity_of us k x)) ≡ true
-        by true is = by-parts (all_commons u) (λ block told. told) (none-odd k) is
+        by true is = by-parts (all_commons u) (λ block told. told) (none-mismatched k) is
         by false is = entity-name (entity_of us k x) (noted us k x some below own is)

@@ -10,25 +10,25 @@ use Rattle.f77_tree.specs.Grammar.{reading}
 use Rattle.f77_tree.specs.StatementGrammar.{IsGiven, IsStatement, WrittenStatement, is_of_subroutines, is_simple, statement_of}
 use Rattle.layout_rules.specs.Faults.{first_line}
 use Rattle.layout_rules.specs.Layout.{last_line}
-use Rattle.f77_subs.specs.declared.sub_end.SubEnd.TheVariants.{UnitOrder}
-use Rattle.f77_subs.specs.Copies.{Change, Context, changed, changed_stmt, changes, number_at}
-use Rattle.f77_subs.specs.Entities.{stands_for}
-use Rattle.f77_subs.specs.Expansion.{blocks, common_of, datas, is_running, put_in, ties, type_of, units_but_main, whole_list}
-use Rattle.f77_subs.specs.Names.{y_entities}
-use Rattle.f77_subs.specs.PutIn.{is_put_in}
-use Rattle.f77_subs.specs.Refusals.{end_at, expansion, is_out_of_unit, unit_refusal, unit_refusals}
-use Rattle.f77_subs.specs.Texts.{IsText}
-use Rattle.f77_subs.specs.Units.{call_by, call_in, sub_name, unit_at, unit_of, unit_or_none, units}
-use Rattle.f77_subs.specs.Widths.{is_kept}
-use Rattle.f77_subs.proofs.AcceptedTables.{main-plain}
-use Rattle.f77_subs.proofs.ChangedRows.{changed_stmt-ThenIf}
-use Rattle.f77_subs.proofs.NoAnswer.{no-end, none-at}
+use Rattle.program_units.specs.declared.sub_end.SubEnd.TheVariants.{UnitOrder}
+use Rattle.program_units.specs.Copies.{Change, Context, changed, changed_stmt, changes, number_at}
+use Rattle.program_units.specs.Entities.{stands_for}
+use Rattle.program_units.specs.Expansion.{blocks, common_of, data_for, is_running, merged, equivalence_for, type_of, units_but_main, whole_list}
+use Rattle.program_units.specs.Names.{y_entities}
+use Rattle.program_units.specs.Merged.{is_merged}
+use Rattle.program_units.specs.Refusals.{end_at, expansion, is_out_of_unit, unit_refusal, unit_refusals}
+use Rattle.program_units.specs.Texts.{IsText}
+use Rattle.program_units.specs.Units.{call_by, call_in, sub_name, unit_at, unit_of, unit_or_none, units}
+use Rattle.program_units.specs.Widths.{is_kept}
+use Rattle.unit_laws.proofs.AcceptedTables.{main-plain}
+use Rattle.inlined_copies.proofs.ChangedRows.{changed_stmt-ThenIf}
+use Rattle.unit_laws.proofs.NoAnswer.{no-end, none-at}
 use Rattle.expanded_sources.proofs.HeldPieces.{Holds, IsInUnit, Whole, all-come, list-holds, whole-append, whole-each, whole-flat, whole-map}
 use Rattle.expanded_sources.proofs.ListedSources.{none-refuses}
-use Rattle.f77_subs.proofs.SettledCopies.{pass_at}
-use Rattle.f77_subs.proofs.StandInsGiven.{subroutines-ThenIf}
-use Rattle.f77_subs.proofs.StandingIn.{inner-ThenIf}
-use Rattle.f77_subs.proofs.UnitSources.{all-of, text-unit}
+use Rattle.unit_laws.proofs.SettledCopies.{pass_at}
+use Rattle.unit_laws.proofs.StandInsGiven.{subroutines-ThenIf}
+use Rattle.program_units.proofs.StandingIn.{inner-ThenIf}
+use Rattle.unit_laws.proofs.UnitSources.{all-of, text-unit}
 
 abbrev IsPlain : Stmt → Type 0
 IsPlain s = is_of_subroutines s ≡ false
@@ -63,35 +63,35 @@ no-name : (o : Option (List ℕ)) → not (is_some o) ≡ true → o ≡ None
 no-name None is = refl
 no-name (Some name) is = let h : false ≡ true = is in absurd cc
 
--- ---- what is put in
+-- ---- what is merged
 
 module _ (us : List (List Labelled)) where
-  ties-plain : (k : ℕ) (s : Labelled) → Whole IsPlain (ties us k s)
+  ties-plain : (k : ℕ) (s : Labelled) → Whole IsPlain (equivalence_for us k s)
   ties-plain k s = by s.line s.label s.stmt
     where
-      by : (line label : ℕ) (stmt : Stmt) → Whole IsPlain (ties us k (record { label = label; line = line; stmt = stmt }))
+      by : (line label : ℕ) (stmt : Stmt) → Whole IsPlain (equivalence_for us k (record { label = label; line = line; stmt = stmt }))
       by line label (Equivalence groups) = (refl, tt)
       by line label _ = tt
 
-  datas-plain : (k : ℕ) (s : Labelled) → Whole IsPlain (datas us k s)
+  datas-plain : (k : ℕ) (s : Labelled) → Whole IsPlain (data_for us k s)
   datas-plain k s = by s.line s.label s.stmt
     where
-      by : (line label : ℕ) (stmt : Stmt) → Whole IsPlain (datas us k (record { label = label; line = line; stmt = stmt }))
+      by : (line label : ℕ) (stmt : Stmt) → Whole IsPlain (data_for us k (record { label = label; line = line; stmt = stmt }))
       by line label (Init parts) = (refl, tt)
       by line label _ = tt
 
-  put-plain : Whole IsPlain (put_in us)
+  put-plain : Whole IsPlain (merged us)
   put-plain =
       let line : ℕ = last_line (unit_at us 0) in
       let types : List Labelled = map (type_of us line) (filter (is_running us) (y_entities us)) in
-      let commons : List Labelled = map (common_of us line) (filter (is_put_in us) (blocks us)) in
-      let tied : List Labelled = flat_map (λ k. flat_map (ties us k) (unit_at us k)) (units_but_main us) in
-      let given : List Labelled = flat_map (λ k. flat_map (datas us k) (unit_at us k)) (units_but_main us) in
+      let commons : List Labelled = map (common_of us line) (filter (is_merged us) (blocks us)) in
+      let tied : List Labelled = flat_map (λ k. flat_map (equivalence_for us k) (unit_at us k)) (units_but_main us) in
+      let given : List Labelled = flat_map (λ k. flat_map (data_for us k) (unit_at us k)) (units_but_main us) in
       whole-append IsPlain ((types ++ commons) ++ tied) given
       (whole-append IsPlain (types ++ commons) tied
-      (whole-append IsPlain types commons (whole-map IsPlain (type_of us line) (λ e. refl) (filter (is_running us) (y_entities us))) (whole-map IsPlain (common_of us line) (λ b. refl) (filter (is_put_in us) (blocks us))))
-      (whole-flat IsPlain (λ k. flat_map (ties us k) (unit_at us k)) (λ k. whole-flat IsPlain (ties us k) (ties-plain k) (unit_at us k)) (units_but_main us)))
-      (whole-flat IsPlain (λ k. flat_map (datas us k) (unit_at us k)) (λ k. whole-flat IsPlain (datas us k) (datas-plain k) (unit_at us k)) (units_but_main us))
+      (whole-append IsPlain types commons (whole-map IsPlain (type_of us line) (λ e. refl) (filter (is_running us) (y_entities us))) (whole-map IsPlain (common_of us line) (λ b. refl) (filter (is_merged us) (blocks us))))
+      (whole-flat IsPlain (λ k. flat_map (equivalence_for us k) (unit_at us k)) (λ k. whole-flat IsPlain (equivalence_for us k) (ties-plain k) (unit_at us k)) (units_but_main us)))
+      (whole-flat IsPlain (λ k. flat_map (data_for us k) (unit_at us k)) (λ k. whole-flat IsPlain (data_for us k) (datas-plain k) (unit_at us k)) (units_but_main us))
 
 -- ---- a text
 

@@ -1,4 +1,4 @@
--- The names of what is put in are symbolic.
+-- The names of what is merged are symbolic.
 use Rattle.std.proofs.Common.{◌≡◌, ℕ, zero, suc, ◌+◌, ◌<◌, ◌≤◌, Bool, true, List, [], ◌∷◌, ◌++◌, length, map, flat_map, get_or, Option, Some, None, refl, ap, subst, ◌∙◌, arith}
 use Rattle.std.specs.Prelude.{bytes_eq}
 use Rattle.std.specs.Cmp.Lexicographic.{nat_list_eq_equiv}
@@ -12,25 +12,25 @@ use Rattle.f77_tree.specs.declared.declarations.Member.{Member}
 use Rattle.f77_tree.specs.declared.statements.Labelled.{Labelled}
 use Rattle.layout_rules.specs.Appearances.{appearing}
 use Rattle.layout_rules.specs.Declarations.{all_commons, is_array}
-use Rattle.f77_subs.specs.declared.entity.Entity.{Entity}
-use Rattle.f77_subs.specs.declared.entity.Entity.TheVariants.{InBlock}
-use Rattle.f77_subs.specs.Entities.{block_list, entity_of}
-use Rattle.f77_subs.specs.Expansion.{block_size, common_decl, init_for, members_for}
-use Rattle.f77_subs.specs.Names.{appearing_here, name_for}
-use Rattle.f77_subs.specs.Refusals.{is_of_storage, unit_refusal}
-use Rattle.f77_subs.specs.Texts.{IsText}
-use Rattle.f77_subs.specs.Units.{unit_at, units}
-use Rattle.f77_subs.proofs.FirstBlocks.{size-first}
-use Rattle.f77_subs.proofs.UsedNames.{Among, behind, in-front}
-use Rattle.f77_subs.proofs.BlockPlaces.{among-at, block-place, own-among}
-use Rattle.f77_subs.proofs.CommonOnce.{common-once}
-use Rattle.f77_subs.proofs.FirstUnits.{HasFirst}
-use Rattle.f77_subs.proofs.NamedEntities.{common-appears, common-at}
-use Rattle.f77_subs.proofs.NoAnswer.{form-none}
+use Rattle.program_units.specs.declared.entity.Entity.{Entity}
+use Rattle.program_units.specs.declared.entity.Entity.TheVariants.{InBlock}
+use Rattle.program_units.specs.Entities.{block_list, entity_of}
+use Rattle.program_units.specs.Expansion.{block_size, common_decl, init_for, members_for}
+use Rattle.program_units.specs.Names.{appearing_here, name_for}
+use Rattle.program_units.specs.Refusals.{is_of_storage, unit_refusal}
+use Rattle.program_units.specs.Texts.{IsText}
+use Rattle.program_units.specs.Units.{unit_at, units}
+use Rattle.entity_names.proofs.FirstBlocks.{size-first}
+use Rattle.unit_laws.proofs.UsedNames.{Among, behind, in-front}
+use Rattle.entity_names.proofs.BlockPlaces.{among-at, block-place, own-among}
+use Rattle.unit_laws.proofs.CommonOnce.{common-once}
+use Rattle.unit_laws.proofs.FirstUnits.{HasFirst}
+use Rattle.entity_names.proofs.NamedEntities.{common-appears, common-at}
+use Rattle.unit_laws.proofs.NoAnswer.{form-none}
 use Rattle.expanded_sources.proofs.HeldPieces.{IsInUnit}
 use Rattle.expanded_sources.proofs.NewNames.{own-name}
-use Rattle.f77_subs.proofs.StoredOwn.{stored-own}
-use Rattle.f77_subs.proofs.UnitNames.{appears, own-of}
+use Rattle.unit_laws.proofs.StoredOwn.{stored-own}
+use Rattle.unit_laws.proofs.UnitNames.{appears, own-of}
 
 -- ---- names of members
 

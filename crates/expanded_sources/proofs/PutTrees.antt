@@ -1,4 +1,4 @@
--- What is put in are trees.
+-- What is merged are trees.
 use Rattle.std.proofs.Common.{◌≡◌, ℕ, zero, suc, ◌+◌, ◌-◌, ◌<◌, ◌≤◌, Bool, true, false, ◌&&◌, cond, All, List, [], ◌∷◌, ◌++◌, length, map, flat_map, filter, Option, None, refl, ap, ◌∙◌, arith}
 use Rattle.std.specs.Prelude.{nat_lt}
 use Rattle.std.specs.List.{list_all, list_any, range_with_len}
@@ -19,20 +19,20 @@ use Rattle.layout_rules.specs.Layout.{last_line}
 use Rattle.layout_rules.specs.ReadDeclarations.{IsReadDecl, IsReadGroup, IsReadInit, IsReadPart}
 use Rattle.layout_rules.specs.StatementTrees.{IsTree}
 use Rattle.storage_laws.proofs.DeclaredForms.{All-flat_map}
-use Rattle.f77_subs.specs.declared.entity.Entity.{Entity}
-use Rattle.f77_subs.specs.Expansion.{block_size, blocks, common_decl, common_of, datas, init_for, is_running, members_for, put_in, ties, type_decl, type_of, units_but_main}
-use Rattle.f77_subs.specs.Entities.{entity_of}
-use Rattle.f77_subs.specs.Names.{name_for, same_entity, y_entities}
-use Rattle.f77_subs.specs.PutIn.{is_put_in}
-use Rattle.f77_subs.specs.Refusals.{unit_refusal}
-use Rattle.f77_subs.specs.Texts.{IsText}
-use Rattle.f77_subs.specs.Units.{runs, unit_at, units}
-use Rattle.f77_subs.proofs.AcceptedTexts.{some-unit}
-use Rattle.f77_subs.proofs.FirstBlocks.{size-first}
-use Rattle.f77_subs.proofs.PutInDeclared.{running-listed}
+use Rattle.program_units.specs.declared.entity.Entity.{Entity}
+use Rattle.program_units.specs.Expansion.{block_size, blocks, common_decl, common_of, data_for, init_for, is_running, members_for, merged, equivalence_for, type_decl, type_of, units_but_main}
+use Rattle.program_units.specs.Entities.{entity_of}
+use Rattle.program_units.specs.Names.{name_for, same_entity, y_entities}
+use Rattle.program_units.specs.Merged.{is_merged}
+use Rattle.program_units.specs.Refusals.{unit_refusal}
+use Rattle.program_units.specs.Texts.{IsText}
+use Rattle.program_units.specs.Units.{runs, unit_at, units}
+use Rattle.unit_laws.proofs.AcceptedTexts.{some-unit}
+use Rattle.entity_names.proofs.FirstBlocks.{size-first}
+use Rattle.unit_laws.proofs.MergedDeclared.{running-listed}
 use Rattle.expanded_sources.proofs.HeldPieces.{IsInUnit, Whole, whole-append, whole-flat-all, whole-flat-each, whole-map-all}
 use Rattle.expanded_sources.proofs.NewNames.{entity-name}
-use Rattle.f77_subs.proofs.FirstUnits.{first-unit}
+use Rattle.unit_laws.proofs.FirstUnits.{first-unit}
 use Rattle.expanded_sources.proofs.PutNames.{common-named, groups-named, inits-named, stored-named}
 use Rattle.expanded_sources.proofs.UnitDeclarations.{block-read, declared-dims, no-dims, unit-declares}
 
@@ -110,7 +110,7 @@ module _ (stmts : List Labelled) (checked : Bool) (text : IsText stmts) (accepte
     inner = refl;
   }
 
-  common-tree : (line : ℕ) (block : Option (List ℕ)) → is_put_in us block ≡ true → IsTree (common_of us line block).stmt
+  common-tree : (line : ℕ) (block : Option (List ℕ)) → is_merged us block ≡ true → IsTree (common_of us line block).stmt
   common-tree line block put =
       let first = first-unit us block put in
       let places : List ℕ = range_with_len 0 (block_size us block) in
@@ -161,17 +161,17 @@ module _ (stmts : List Labelled) (checked : Bool) (text : IsText stmts) (accepte
           inner = refl;
         }
 
-    ties-hold : (s : Labelled) → IsInUnit us k s → Whole IsTree (ties us k s)
+    ties-hold : (s : Labelled) → IsInUnit us k s → Whole IsTree (equivalence_for us k s)
     ties-hold s here = by s.label s.line s.stmt here
       where
-        by : (label line : ℕ) (stmt : Stmt) → IsInUnit us k (record { label = label; line = line; stmt = stmt }) → Whole IsTree (ties us k (record { label = label; line = line; stmt = stmt }))
+        by : (label line : ℕ) (stmt : Stmt) → IsInUnit us k (record { label = label; line = line; stmt = stmt }) → Whole IsTree (equivalence_for us k (record { label = label; line = line; stmt = stmt }))
         by label line (Equivalence groups) it = (tie-tree label line groups it, tt)
         by label line _ it = tt
 
-    datas-hold : (s : Labelled) → IsInUnit us k s → Whole IsTree (datas us k s)
+    datas-hold : (s : Labelled) → IsInUnit us k s → Whole IsTree (data_for us k s)
     datas-hold s here = by s.label s.line s.stmt here
       where
-        by : (label line : ℕ) (stmt : Stmt) → IsInUnit us k (record { label = label; line = line; stmt = stmt }) → Whole IsTree (datas us k (record { label = label; line = line; stmt = stmt }))
+        by : (label line : ℕ) (stmt : Stmt) → IsInUnit us k (record { label = label; line = line; stmt = stmt }) → Whole IsTree (data_for us k (record { label = label; line = line; stmt = stmt }))
         by label line (Init parts) it = (data-tree label line parts it, tt)
         by label line _ it = tt
 
@@ -183,17 +183,17 @@ module _ (stmts : List Labelled) (checked : Bool) (text : IsText stmts) (accepte
       whole-flat-each IsTree (f k) (unit_at us k) (λ j s here. holds k (ltb-true 0 k parts.0) (ltb-true k (length us) parts.1) s (record { place = j; here = here })))
       (units_but_main us) (subs-all us (some-unit stmts text.ended))
 
-  pub put-trees : Whole IsTree (put_in us)
+  pub put-trees : Whole IsTree (merged us)
   put-trees =
       let line : ℕ = last_line (unit_at us 0) in
       let types : List Labelled = map (type_of us line) (filter (is_running us) (y_entities us)) in
-      let commons : List Labelled = map (common_of us line) (filter (is_put_in us) (blocks us)) in
-      let tied : List Labelled = flat_map (λ k. flat_map (ties us k) (unit_at us k)) (units_but_main us) in
-      let given : List Labelled = flat_map (λ k. flat_map (datas us k) (unit_at us k)) (units_but_main us) in
+      let commons : List Labelled = map (common_of us line) (filter (is_merged us) (blocks us)) in
+      let tied : List Labelled = flat_map (λ k. flat_map (equivalence_for us k) (unit_at us k)) (units_but_main us) in
+      let given : List Labelled = flat_map (λ k. flat_map (data_for us k) (unit_at us k)) (units_but_main us) in
       whole-append IsTree ((types ++ commons) ++ tied) given
       (whole-append IsTree (types ++ commons) tied
       (whole-append IsTree types commons
       (whole-map-all IsTree (λ e. list_any (same_entity e) (y_entities us)) (type_of us line) (type-tree line) (filter (is_running us) (y_entities us)) (running-listed us))
-      (whole-map-all IsTree (is_put_in us) (common_of us line) (common-tree line) (filter (is_put_in us) (blocks us)) (kept-passes (is_put_in us) (blocks us))))
-      (each-unit (ties us) ties-hold))
-      (each-unit (datas us) datas-hold)
+      (whole-map-all IsTree (is_merged us) (common_of us line) (common-tree line) (filter (is_merged us) (blocks us)) (kept-passes (is_merged us) (blocks us))))
+      (each-unit (equivalence_for us) ties-hold))
+      (each-unit (data_for us) datas-hold)

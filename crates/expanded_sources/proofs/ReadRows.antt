@@ -16,8 +16,8 @@ use Rattle.layout_rules.specs.Appearances.{called_name, names_in}
 use Rattle.layout_rules.specs.ReadExpressions.{AllReadings, IsReading}
 use Rattle.layout_rules.specs.Types.{Intrinsic, count_of_row, intrinsics, is_intrinsic, takes}
 use Rattle.layout_rules.proofs.NamesIn.{names_in-Apply, names_in-Call}
-use Rattle.f77_subs.specs.Copies.{pairs}
-use Rattle.f77_subs.proofs.ChangedRows.{row_of}
+use Rattle.program_units.specs.Copies.{pairs}
+use Rattle.inlined_copies.proofs.ChangedRows.{row_of}
 
 -- ---- rows are lists
 

@@ -16,12 +16,12 @@ use Rattle.f77_tree.specs.declared.statements.Stmt.TheVariants.{Common}
 use Rattle.layout_rules.specs.Appearances.{appearing}
 use Rattle.layout_rules.specs.Declarations.{all_commons, parts_of}
 use Rattle.storage_laws.proofs.SymbolicNames.{given_symbolic}
-use Rattle.f77_subs.specs.Entities.{block_list}
-use Rattle.f77_subs.specs.Names.{names_of_unit, option_names}
-use Rattle.f77_subs.specs.Texts.{IsText}
-use Rattle.f77_subs.specs.Units.{dummies_of, sub_name, unit_at, unit_or_none, units}
-use Rattle.f77_subs.proofs.TextNames.{unit-named}
-use Rattle.f77_subs.proofs.UnitSources.{Each, IsUnit, text-unit}
+use Rattle.program_units.specs.Entities.{block_list}
+use Rattle.program_units.specs.Names.{names_of_unit, option_names}
+use Rattle.program_units.specs.Texts.{IsText}
+use Rattle.program_units.specs.Units.{dummies_of, sub_name, unit_at, unit_or_none, units}
+use Rattle.unit_laws.proofs.TextNames.{unit-named}
+use Rattle.unit_laws.proofs.UnitSources.{Each, IsUnit, text-unit}
 use Rattle.expanded_sources.proofs.ReadRows.{AreNames, joined, parted}
 
 -- ---- members of lists

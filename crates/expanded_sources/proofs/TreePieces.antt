@@ -9,15 +9,15 @@ use Rattle.f77_tree.specs.declared.statements.Stmt.TheVariants.{Continue, EndIf}
 use Rattle.layout_rules.specs.Labels.{IsLabel}
 use Rattle.layout_rules.specs.ReadDeclarations.{IsReadDecl, IsReadGroup, IsReadInit, IsReadPart}
 use Rattle.layout_rules.specs.StatementTrees.{IsTree}
-use Rattle.f77_subs.specs.Copies.{Context, changes, number_at}
-use Rattle.f77_subs.specs.Entities.{stands_for}
-use Rattle.f77_subs.specs.Expansion.{main_context, whole_list}
-use Rattle.f77_subs.specs.Refusals.{expansion, unit_refusal}
-use Rattle.f77_subs.specs.Texts.{IsText}
-use Rattle.f77_subs.specs.Units.{Call, call_in, unit_at, unit_of, units}
-use Rattle.f77_subs.specs.Widths.{body_labels, labels_written}
-use Rattle.f77_subs.proofs.PieceLabels.{whole-labels}
-use Rattle.f77_subs.proofs.UnitSources.{all-of}
+use Rattle.program_units.specs.Copies.{Context, changes, number_at}
+use Rattle.program_units.specs.Entities.{stands_for}
+use Rattle.program_units.specs.Expansion.{main_context, whole_list}
+use Rattle.program_units.specs.Refusals.{expansion, unit_refusal}
+use Rattle.program_units.specs.Texts.{IsText}
+use Rattle.program_units.specs.Units.{Call, call_in, unit_at, unit_of, units}
+use Rattle.program_units.specs.Widths.{body_labels, labels_written}
+use Rattle.unit_laws.proofs.PieceLabels.{whole-labels}
+use Rattle.unit_laws.proofs.UnitSources.{all-of}
 use Rattle.expanded_sources.proofs.ChangedTrees.{changed-tree, head-tree}
 use Rattle.expanded_sources.proofs.ContextLabels.{HasFewLabels, called-few, has-labels}
 use Rattle.expanded_sources.proofs.ContextNames.{AreArguments, called-arguments, main-arguments}

@@ -14,19 +14,19 @@ use Rattle.layout_rules.specs.Declarations.{all_commons, all_declarators, declar
 use Rattle.layout_rules.specs.Faults.{answer_or, first_answer}
 use Rattle.layout_rules.specs.ReadDeclarations.{IsReadDecl, IsReadDeclaration, IsReadDims, IsReadPart}
 use Rattle.storage_laws.proofs.DeclaredForms.{All-flat_map, given-IsReadDeclaration}
-use Rattle.f77_subs.specs.declared.entity.Entity.{Entity}
-use Rattle.f77_subs.specs.declared.entity.Entity.TheVariants.{InBlock, Local}
-use Rattle.f77_subs.specs.Entities.{block_list}
-use Rattle.f77_subs.specs.Expansion.{declared_in}
-use Rattle.f77_subs.specs.Names.{has_block}
-use Rattle.f77_subs.specs.PutIn.{first_with_block}
-use Rattle.f77_subs.specs.Texts.{IsText}
-use Rattle.f77_subs.specs.Units.{unit_at, unit_or_none, units}
-use Rattle.f77_subs.proofs.MainNames.{decl_names, names_of_block}
-use Rattle.f77_subs.proofs.ManyBlocks.{is-first, no-first}
-use Rattle.f77_subs.proofs.OwnNames.{blocks-same}
-use Rattle.f77_subs.proofs.UnitSources.{all-of, text-unit}
-use Rattle.f77_subs.proofs.BlockPlaces.{of-own}
+use Rattle.program_units.specs.declared.entity.Entity.{Entity}
+use Rattle.program_units.specs.declared.entity.Entity.TheVariants.{InBlock, Local}
+use Rattle.program_units.specs.Entities.{block_list}
+use Rattle.program_units.specs.Expansion.{declared_in}
+use Rattle.program_units.specs.Names.{has_block}
+use Rattle.program_units.specs.Merged.{first_with_block}
+use Rattle.program_units.specs.Texts.{IsText}
+use Rattle.program_units.specs.Units.{unit_at, unit_or_none, units}
+use Rattle.unit_laws.proofs.MainNames.{decl_names, names_of_block}
+use Rattle.unit_laws.proofs.ManyBlocks.{is-first, no-first}
+use Rattle.unit_laws.proofs.OwnNames.{blocks-same}
+use Rattle.unit_laws.proofs.UnitSources.{all-of, text-unit}
+use Rattle.entity_names.proofs.BlockPlaces.{of-own}
 use Rattle.expanded_sources.proofs.HeldPieces.{IsInUnit}
 
 -- ---- dimensions

@@ -1,4 +1,4 @@
-//! What a text with subroutines comes to can be laid out: a law over the definitions of `f77_subs`. No code of the compiler is here.
+//! What a text with subroutines comes to can be laid out: a law over the definitions of `program_units`. No code of the compiler is here.
 #![tactic(auto)]
 
 mod laws;

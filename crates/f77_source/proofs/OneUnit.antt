@@ -8,8 +8,8 @@ use Rattle.f77_tree.specs.StatementGrammar.{is_of_subroutines}
 use Rattle.f77_tree.proofs.AllLemmas.{All-nil, All-cons}
 use Rattle.layout_rules.specs.Source.{EndsWithEnd, IsSource}
 use Rattle.f77_layout.proofs.GivenTrees.{given-IsTree}
-use Rattle.f77_subs.specs.Texts.{IsText}
-use Rattle.f77_subs.specs.Units.{is_end}
+use Rattle.program_units.specs.Texts.{IsText}
+use Rattle.program_units.specs.Units.{is_end}
 use Rattle.f77_source.specs.Listed.{stays_in_unit, is_one_unit}
 
 pub some-statement : (stmts : List Labelled) → EndsWithEnd stmts → 0 < length stmts

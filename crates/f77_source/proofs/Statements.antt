@@ -8,7 +8,7 @@ use Rattle.fixed_form.specs.Limits.{AreWithinForm, IsWithinForm}
 use Rattle.fixed_form.specs.Statement.{ends_with_end}
 use Rattle.f77_tree.specs.declared.statements.Stmt.TheVariants.{End}
 use Rattle.layout_rules.specs.Source.{EndsWithEnd}
-use Rattle.f77_subs.specs.Texts.{IsText}
+use Rattle.program_units.specs.Texts.{IsText}
 use Rattle.std.proofs.lemmas.Slice.Eq.{bytes_eq-Decides}
 use Rattle.std.proofs.Math.ListN.{get_or-append}
 use Rattle.std.proofs.Math.Nat.{eq-or-lt_of_le}

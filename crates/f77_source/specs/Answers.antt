@@ -6,8 +6,8 @@ use Rattle.f77_parse.specs.declared.stmt_end.StmtEnd.{StmtEnd}
 use Rattle.f77_parse.specs.declared.stmt_end.StmtEnd.TheVariants as stmt
 use Rattle.layout_rules.specs.declared.layout_end.LayoutEnd.{LayoutEnd}
 use Rattle.layout_rules.specs.declared.layout_end.LayoutEnd.TheVariants as layout
-use Rattle.f77_subs.specs.declared.sub_end.SubEnd.{SubEnd}
-use Rattle.f77_subs.specs.declared.sub_end.SubEnd.TheVariants as sub
+use Rattle.program_units.specs.declared.sub_end.SubEnd.{SubEnd}
+use Rattle.program_units.specs.declared.sub_end.SubEnd.TheVariants as sub
 use Rattle.f77_source.specs.Reading.{form_refusal, stmt_refusal, sub_refusal, layout_refusal}
 use Rattle.f77_source.specs.declared.source_end.SourceEnd.{SourceEnd}
 use Rattle.f77_source.specs.declared.source_end.SourceEnd.TheVariants.{Refused, NoMemory}

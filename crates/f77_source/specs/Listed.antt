@@ -4,9 +4,9 @@ use Rattle.std.specs.List.{list_all}
 use Rattle.f77_tree.specs.declared.statements.Labelled.{Labelled}
 use Rattle.f77_tree.specs.declared.statements.Stmt.{Stmt}
 use Rattle.f77_tree.specs.StatementGrammar.{is_of_subroutines}
-use Rattle.f77_subs.specs.declared.sub_end.SubEnd.{SubEnd}
-use Rattle.f77_subs.specs.Refusals.{expansion}
-use Rattle.f77_subs.specs.Units.{is_end}
+use Rattle.program_units.specs.declared.sub_end.SubEnd.{SubEnd}
+use Rattle.program_units.specs.Refusals.{expansion}
+use Rattle.program_units.specs.Units.{is_end}
 
 -- neither END nor a statement of subroutines
 abbrev pub stays_in_unit : Stmt → Bool

@@ -14,9 +14,9 @@ use Rattle.layout_rules.specs.declared.layout_end.LayoutEnd.TheVariants as layou
 use Rattle.layout_rules.specs.Layout as laid
 use Rattle.alias_classes.specs.Number.{number_of_classes}
 use Rattle.alias_classes.specs.declared.TheConstants.{CLASS_WORDS}
-use Rattle.f77_subs.specs.declared.sub_end.SubEnd.{SubEnd}
-use Rattle.f77_subs.specs.declared.sub_end.SubEnd.TheVariants as sub
-use Rattle.f77_subs.specs.Texts.{IsText}
+use Rattle.program_units.specs.declared.sub_end.SubEnd.{SubEnd}
+use Rattle.program_units.specs.declared.sub_end.SubEnd.TheVariants as sub
+use Rattle.program_units.specs.Texts.{IsText}
 use Rattle.f77_source.specs.Listed.{listed}
 use Rattle.f77_source.specs.declared.source_end.Code.{Code}
 use Rattle.f77_source.specs.declared.source_end.Code.TheVariants as code
@@ -27,7 +27,7 @@ told code line = record { line = line; code = code }
 
 -- ---- lines and statements
 
--- the refusal of a line; the definition of lines never comes to the last row
+-- the refusal of a line; the last row is never met (`readings_never_lack_memory` of refusal_laws)
 abbrev pub form_refusal : FormEnd → Refusal
 form_refusal (form.BadByte line) = told code.BadByte line
 form_refusal (form.BadLabelField line) = told code.BadLabelField line
@@ -37,7 +37,7 @@ form_refusal (form.NoEnd line) = told code.NoEnd line
 form_refusal (form.TooManyStatements line) = told code.TooManyStatements line
 form_refusal form.NoMemory = told code.NoEnd 0
 
--- the refusal of a statement's text; that of a statement never comes to the last row
+-- the refusal of a statement's text; the last row is never met (`readings_never_lack_memory`)
 abbrev pub stmt_refusal : StmtEnd → Refusal
 stmt_refusal (stmt.NoForm line) = told code.NoForm line
 stmt_refusal (stmt.BadConstant line) = told code.BadConstant line
@@ -49,7 +49,8 @@ statement_before (Err end) more = Err (stmt_refusal end)
 statement_before (Ok s) (Err refusal) = Err refusal
 statement_before (Ok s) (Ok more) = Ok (s ∷ more)
 
--- the statements, or the refusal of the first text that is none
+-- the statements, or the refusal of the first text that is none; `reading_of` is what the grammar says of a text, and nothing else is
+-- (`one_answer` and `one_statement` of f77_parse)
 abbrev pub statements_of : List RawStmt → Result (List Labelled) Refusal
 statements_of [] = Ok []
 statements_of (raw ∷ more) = statement_before (reading_of raw) (statements_of more)
@@ -64,7 +65,7 @@ statements_read bytes = statements_in (lines.reading bytes)
 
 -- ---- programs
 
--- the refusal of statements; that of a layout never comes to the last row
+-- the refusal of statements; the last row is never met (`readings_never_lack_memory`)
 abbrev pub layout_refusal : LayoutEnd → Refusal
 layout_refusal (layout.OutOfOrder line) = told code.OutOfOrder line
 layout_refusal (layout.RealName line) = told code.RealName line
@@ -78,7 +79,7 @@ layout_refusal (layout.TooManyWords line) = told code.TooManyWords line
 layout_refusal (layout.TooManyOps line) = told code.TooManyOps line
 layout_refusal layout.NoMemory = told code.OutOfOrder 0
 
--- the refusal of units; the definition of an expansion never comes to the last row
+-- the refusal of units; the last row is never met (`readings_never_lack_memory`)
 abbrev pub sub_refusal : SubEnd → Refusal
 sub_refusal (sub.UnitOrder line) = told code.OutOfOrder line
 sub_refusal (sub.Layout end) = layout_refusal end

@@ -3,12 +3,13 @@ ghost use Rattle.std.specs.Prelude.{◌≡◌, ◌≢◌, ◌<◌, length, IfOk,
 ghost use Rattle.std.specs.List.{list_all};
 ghost use Rattle.f77_tree.specs.StatementGrammar.{is_of_subroutines as is_of_subroutines_of};
 ghost use Rattle.layout_rules.specs.Source.{IsSource};
-ghost use Rattle.f77_subs.specs.Texts.{IsText};
+ghost use Rattle.program_units.specs.Texts.{IsText};
 ghost use Rattle.f77_source.specs.Listed.{is_one_unit as is_one_unit_of, listed as listed_of, stays_in_unit as stays_in_unit_of};
 
 use expanded_sources::expansions_are_sources;
-use f77_subs::{SubEnd, expand};
+use f77_subs::expand;
 use f77_tree::{Labelled, LabelledList, Stmt};
+use program_units::SubEnd;
 use std::alloc::Global;
 
 /// The statements of one program in place of those of a text: the same where it is one unit without subroutines, and else

@@ -5,7 +5,7 @@ ghost use Rattle.f77_tree.specs.WellFormed.{IsWellFormed};
 ghost use Rattle.alias_classes.specs.Number.{HasFewClasses, number_of_classes};
 ghost use Rattle.layout_rules.specs.Layout.{layout, last_line};
 ghost use Rattle.layout_rules.specs.Source.{IsSource};
-ghost use Rattle.f77_subs.specs.Texts.{IsText};
+ghost use Rattle.program_units.specs.Texts.{IsText};
 ghost use Rattle.f77_source.specs.Accepted.{IsAccepted};
 ghost use Rattle.f77_source.specs.Answers.{IsReadAs, told_form, told_stmt, told_sub, told_layout};
 ghost use Rattle.f77_source.specs.Reading.{IsProgramFrom, IsProgramOf, reading, statements_of, statements_read, most_classes, program_of as program_of_statements, program_from as program_from_list};
@@ -16,9 +16,9 @@ use alias_classes::{CLASS_WORDS, ClassEnd, classes_are_counted, classes_of};
 use df_sequence::{NoMemory, Sequence};
 use f77_layout::{LayoutEnd, assemble};
 use f77_parse::{StmtEnd, one_statement, parse_stmt};
-use f77_subs::SubEnd;
 use f77_tree::{LabelledList, Program};
 use fixed_form::{FormEnd, RawStmtList, statements};
+use program_units::SubEnd;
 use std::alloc::Global;
 
 /// The program that a source text is: of one unit, or of several by their expansion. In the checked dialect arithmetic traps

@@ -7,10 +7,10 @@ use Rattle.std.proofs.lemmas.Bool.{or_left, or_right}
 use Rattle.std.proofs.lemmas.Option.{slice_get_read}
 use Rattle.f77_tree.specs.declared.declarations.Member.{Member}
 use Rattle.f77_tree.specs.declared.statements.Labelled.{Labelled}
-use Rattle.f77_subs.specs.Entities.{entity_of}
-use Rattle.f77_subs.specs.NamedEntities.{HaveNames, has_name}
-use Rattle.f77_subs.proofs.UnitNames.{among-part}
-use Rattle.f77_subs.proofs.UsedNames.{Among}
+use Rattle.program_units.specs.Entities.{entity_of}
+use Rattle.program_units.specs.NamedEntities.{HaveNames, has_name}
+use Rattle.unit_laws.proofs.UnitNames.{among-part}
+use Rattle.unit_laws.proofs.UsedNames.{Among}
 
 abbrev pub member_names : List Member → List (List ℕ)
 member_names members = map (λ (member : Member). member.name) members

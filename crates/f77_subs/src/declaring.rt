@@ -1,23 +1,23 @@
-//! Declarations of entities that are put in.
+//! Declarations of entities that are merged.
 ghost use Rattle.std.specs.Prelude.{◌≡◌, ◌<◌, ◌∷◌, [], length, true, IfOk};
 ghost use Rattle.layout_rules.specs.Declarations.{kind_of};
 ghost use Rattle.layout_rules.specs.Executables.{kind_or_integer as kind_or_integer_of};
-ghost use Rattle.f77_subs.specs.Expansion.{block_size as block_size_of, common_decl as common_decl_of, common_decls as common_decls_of, declared_in as declared_in_of, type_decl as type_decl_of};
-ghost use Rattle.f77_subs.specs.NamedEntities.{has_name, is_declared};
-ghost use Rattle.f77_subs.specs.PutIn.{is_put_in};
-ghost use Rattle.f77_subs.specs.Units.{unit_at};
+ghost use Rattle.program_units.specs.Expansion.{block_size as block_size_of, common_decl as common_decl_of, common_decls as common_decls_of, declared_in as declared_in_of, type_decl as type_decl_of};
+ghost use Rattle.program_units.specs.NamedEntities.{has_name, is_declared};
+ghost use Rattle.program_units.specs.Merged.{is_merged};
+ghost use Rattle.program_units.specs.Units.{unit_at};
 
-use crate::entity::{Entity, copy_of_block};
-use crate::new_names::copy_found;
-use crate::put_in::PutIn;
+use crate::merging::Merging;
 use df_sequence::{Copied, NoMemory, Sequence};
+use entity_names::copy_found;
 use f77_tree::{Decl, DeclList, Kind, Name};
+use program_units::{Entity, copy_of_block};
 use std::alloc::Global;
 
 /// The kind of an entity, and its new name with its dimensions.
 pub(crate) fn type_decl(
     alloc: Global,
-    put: &PutIn,
+    put: &Merging,
     entity: &Entity,
 ) -> Result<(Kind, DeclList), NoMemory>
     requires named { has_name put.now.new.now.text.now.us.now entity.now ≡ true }
@@ -47,7 +47,7 @@ fn kind_or_integer(kind: Option<Kind>) -> Kind
 }
 
 // The unit that declares an entity, and the name that the entity has there.
-fn declared_in(alloc: Global, put: &PutIn, entity: &Entity) -> Result<(usize, Name), NoMemory>
+fn declared_in(alloc: Global, put: &Merging, entity: &Entity) -> Result<(usize, Name), NoMemory>
     requires { is_declared put.now.new.now.text.now.us.now entity.now ≡ true }
     ensures inside { IfOk result (λ found. found.0 < length put.now.new.now.text.now.us.now) }
     ensures same { IfOk result (λ found. (unit_at put.now.new.now.text.now.us.now found.0, found.1) ≡ declared_in_of put.now.new.now.text.now.us.now entity.now) }
@@ -64,13 +64,13 @@ fn declared_in(alloc: Global, put: &PutIn, entity: &Entity) -> Result<(usize, Na
     }
 }
 
-/// Declarators of the new names of a block that is put in, as many as it has places.
+/// Declarators of the new names of a block that is merged, as many as it has places.
 pub(crate) fn common_decls(
     alloc: Global,
-    put: &PutIn,
+    put: &Merging,
     block: &Option<Name>,
 ) -> Result<DeclList, NoMemory>
-    requires { is_put_in put.now.new.now.text.now.us.now block.now ≡ true }
+    requires { is_merged put.now.new.now.text.now.us.now block.now ≡ true }
     ensures { IfOk result (λ made. made ≡ common_decls_of put.now.new.now.text.now.us.now block.now) }
 {
     let mut decls = Sequence::new(alloc);
@@ -80,14 +80,14 @@ pub(crate) fn common_decls(
     Ok(decls)
 }
 
-// The new name of a place of a block that is put in.
+// The new name of a place of a block that is merged.
 fn common_decl(
     alloc: Global,
-    put: &PutIn,
+    put: &Merging,
     block: &Option<Name>,
     place: usize,
 ) -> Result<Decl, NoMemory>
-    requires put { is_put_in put.now.new.now.text.now.us.now block.now ≡ true }
+    requires put { is_merged put.now.new.now.text.now.us.now block.now ≡ true }
     requires inside { place < block_size_of put.now.new.now.text.now.us.now block.now }
     ensures { IfOk result (λ made. made ≡ common_decl_of put.now.new.now.text.now.us.now block.now place) }
 {
@@ -99,7 +99,7 @@ fn common_decl(
 }
 
 // How many places a block has.
-fn block_size(put: &PutIn, block: &Option<Name>) -> usize
+fn block_size(put: &Merging, block: &Option<Name>) -> usize
     ensures { result ≡ block_size_of put.now.new.now.text.now.us.now block.now }
 {
     match put.firsts.get(block) {

@@ -3,30 +3,26 @@ ghost use Rattle.std.specs.Prelude.{◌≡◌, ◌<◌, ◌≤◌, ◌≢◌, �
 ghost use Rattle.closed_walks.specs.Graph.{edge_count};
 ghost use Rattle.indexmap.specs.IndexMap.{get};
 ghost use Rattle.layout_rules.specs.Faults.{first_answer};
-ghost use Rattle.f77_subs.specs.CallGraph.{call_graph};
-ghost use Rattle.f77_subs.specs.CallTable.{unit_named};
-ghost use Rattle.f77_subs.specs.Expansion.{total_width, whole_list as whole_list_of};
-ghost use Rattle.f77_subs.specs.Heights.{NoneCallsItself};
-ghost use Rattle.f77_subs.specs.NamedEntities.{AreAllNamed};
-ghost use Rattle.f77_subs.specs.NamedTables.{AreFit};
-ghost use Rattle.f77_subs.specs.Refusals.{expansion, has_great_name, list_unless, size_refusals};
-ghost use Rattle.f77_subs.specs.Texts.{IsText};
-ghost use Rattle.f77_subs.specs.Units.{runs as runs_of};
+ghost use Rattle.unit_checks.specs.CallGraph.{call_graph};
+ghost use Rattle.program_units.specs.CallTable.{unit_named};
+ghost use Rattle.program_units.specs.Expansion.{total_width, whole_list as whole_list_of};
+ghost use Rattle.program_units.specs.Heights.{NoneCallsItself};
+ghost use Rattle.program_units.specs.NamedEntities.{AreAllNamed};
+ghost use Rattle.program_units.specs.Units.{AreFit, runs as runs_of};
+ghost use Rattle.program_units.specs.Refusals.{expansion, has_great_name, list_unless, size_refusals};
+ghost use Rattle.program_units.specs.Texts.{IsText};
 
-use crate::SubEnd;
 use crate::form_refusals::form_refusal;
-use crate::new_names::NewNames;
-use crate::put_in::PutIn;
-use crate::running::running;
+use crate::merging::Merging;
 use crate::size_refusals::size_refusal;
-use crate::splitting::Units;
-use crate::sub_index::sub_index;
-use crate::text_entities::TextEntities;
 use crate::whole_list::whole_list;
 use df_sequence::NoMemory;
+use entity_names::{NewNames, TextEntities};
 use f77_tree::{Labelled, LabelledList, Name};
 use indexmap::IndexMap;
+use program_units::{SubEnd, Units, sub_index};
 use std::alloc::Global;
+use unit_checks::running;
 
 /// The statements of one program in place of those of a text with subroutines: the main program with copies of the
 /// subroutines in place of its CALLs, and behind its declarations those of the subroutines that run. Copied statements keep
@@ -104,7 +100,7 @@ fn list_of(
     ensures { IfOk result (λ list. list ≡ whole_list_of text.now.us.now) }
 {
     let new = NewNames::of(alloc, text)?;
-    let put = PutIn::of(alloc, &new, runs)?;
+    let put = Merging::of(alloc, &new, runs)?;
     let list = whole_list(alloc, text.us, index, &put)?;
     Ok(list)
 }

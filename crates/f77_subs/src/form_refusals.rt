@@ -1,26 +1,21 @@
 //! Refusals of units but for those that speak of the size of the expansion.
 ghost use Rattle.std.specs.Prelude.{◌≡◌, ◌≤◌, length, IfOk};
 ghost use Rattle.layout_rules.specs.Faults.{first_answer};
-ghost use Rattle.f77_subs.specs.Units.{units};
-ghost use Rattle.f77_subs.specs.Refusals.{AreSubNames, call_refusals, form_refusals};
-ghost use Rattle.f77_subs.specs.Texts.{IsText};
+ghost use Rattle.program_units.specs.Units.{units};
+ghost use Rattle.program_units.specs.Refusals.{AreSubNames, call_refusals, form_refusals};
+ghost use Rattle.program_units.specs.Texts.{IsText};
 
-use crate::SubEnd;
-use crate::bad_blocks::first_bad_block;
-use crate::bad_calls::first_bad_call;
-use crate::recursion::first_recursion;
-use crate::refused_units::first_refused;
-use crate::splitting::Units;
-use crate::sub_index::sub_index;
-use crate::sub_names::{SubNames, first_lacking_sub, sub_names};
-use crate::unit_order::first_out_of_unit;
 use df_sequence::NoMemory;
 use f77_tree::Labelled;
+use program_units::{
+    SubEnd, SubNames, Units, first_lacking_sub, first_out_of_unit, sub_index, sub_names,
+};
 use std::alloc::Global;
+use unit_checks::{first_bad_block, first_bad_call, first_recursion, first_refused};
 
 /// The first refusal of these units, but for those that speak of the size of the expansion. Beside the units' layouts, it
 /// takes a time linear in the statements.
-pub(crate) fn form_refusal(
+pub fn form_refusal(
     alloc: Global,
     stmts: &[Labelled],
     us: &Units,

@@ -2,13 +2,13 @@
 ghost use Rattle.std.specs.Prelude.{◌≡◌, ◌+◌, ◌<◌, ℕ, List, true, filter, length, nat_lt, IfOk};
 ghost use Rattle.std.specs.List.{list_any, range_with_len};
 ghost use Rattle.layout_rules.specs.Appearances.{each_once};
-ghost use Rattle.f77_subs.specs.NamedEntities.{are_short};
-ghost use Rattle.f77_subs.specs.NewNames.{first_free, is_free_of};
+ghost use Rattle.program_units.specs.NamedEntities.{are_short};
+ghost use Rattle.program_units.specs.NewNames.{first_free, is_free_of};
 
-use crate::put_counts::one_if;
-use crate::y_names::y_name;
+use crate::merged_counts::one_if;
 use declared_names::AppearingNames;
 use df_sequence::NoMemory;
+use entity_names::y_name;
 use std::alloc::Global;
 
 /// Whether one of the first so many free numbers is above this, where these are the names in use, each once. It tries no

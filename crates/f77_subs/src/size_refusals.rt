@@ -3,23 +3,22 @@ ghost use Rattle.std.specs.Prelude.{◌≡◌, ◌+◌, ◌<◌, ℕ, List, fals
 ghost use Rattle.std.specs.List.{list_any};
 ghost use Rattle.indexmap.specs.IndexMap.{get};
 ghost use Rattle.layout_rules.specs.Faults.{first_answer};
-ghost use Rattle.f77_subs.specs.CallTable.{unit_named};
-ghost use Rattle.f77_subs.specs.Expansion.{total_width};
-ghost use Rattle.f77_subs.specs.Heights.{NoneCallsItself};
-ghost use Rattle.f77_subs.specs.NamedEntities.{AreAllNamed, are_short};
-ghost use Rattle.f77_subs.specs.Names.{own_numbers, used_names};
-ghost use Rattle.f77_subs.specs.Refusals.{size_refusals};
-ghost use Rattle.f77_subs.specs.Units.{runs as runs_of};
+ghost use Rattle.program_units.specs.CallTable.{unit_named};
+ghost use Rattle.program_units.specs.Expansion.{total_width};
+ghost use Rattle.program_units.specs.Heights.{NoneCallsItself};
+ghost use Rattle.program_units.specs.NamedEntities.{AreAllNamed, are_short};
+ghost use Rattle.program_units.specs.Names.{own_numbers, used_names};
+ghost use Rattle.program_units.specs.Refusals.{size_refusals};
+ghost use Rattle.program_units.specs.Units.{runs as runs_of};
 
-use crate::SubEnd;
 use crate::great_names::has_number_above;
-use crate::put_counts::put_in_count;
-use crate::text_entities::TextEntities;
-use crate::total_widths::has_more_than;
-use crate::unit_lines::line_of_end;
+use crate::merged_counts::merged_count;
 use df_sequence::NoMemory;
+use entity_names::TextEntities;
 use f77_tree::Name;
 use indexmap::IndexMap;
+use inlined_copies::has_more_than;
+use program_units::{SubEnd, line_of_end};
 use std::alloc::Global;
 
 /// More statements are refused.
@@ -68,8 +67,8 @@ fn has_more_statements(
     requires most { most + 1 < 4294967296 }
     ensures { IfOk result (λ more. more ≡ nat_lt most (total_width text.now.us.now)) }
 {
-    let put_in = put_in_count(alloc, text.us, runs, &text.own, &text.main, most + 1)?;
-    let more = has_more_than(alloc, text.us, index, put_in, most)?;
+    let merged = merged_count(alloc, text.us, runs, &text.own, &text.main, most + 1)?;
+    let more = has_more_than(alloc, text.us, index, merged, most)?;
     Ok(more)
 }
 

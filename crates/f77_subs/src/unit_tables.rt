@@ -1,16 +1,16 @@
 //! The tables of all units.
 ghost use Rattle.std.specs.Prelude.{◌≡◌, ◌<◌, ◌^◌, length, bytes_eq, IfOk};
 ghost use Rattle.indexmap.specs.IndexMap.{get};
-ghost use Rattle.f77_subs.specs.NamedTables.{AreTablesOf, AreNamed};
-ghost use Rattle.f77_subs.specs.UnitTables.{IsTableOf};
+ghost use Rattle.inlined_copies.specs.NamedTables.{AreTablesOf, AreNamed};
+ghost use Rattle.inlined_copies.specs.UnitTables.{IsTableOf};
 
-use crate::label_counts::LabelCounts;
-use crate::new_names::NewNames;
-use crate::unit_table::{NewName, UnitTable};
 use declared_names::NameDeclarations;
 use df_sequence::NoMemory;
+use entity_names::NewNames;
 use f77_tree::Name;
 use indexmap::IndexMap;
+use inlined_copies::{LabelCounts, UnitTable};
+use program_units::NewName;
 use std::alloc::Global;
 
 /// The tables of all units, by the names of the text and the labels of copies. They take a time linear in the text.

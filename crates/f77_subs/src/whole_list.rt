@@ -1,22 +1,21 @@
-//! The main program with copies in place of its CALLs, and with what is put in.
+//! The main program with copies in place of its CALLs, and with what is merged.
 ghost use Rattle.std.specs.Prelude.{◌≡◌, ◌<◌, ◌≤◌, ◌^◌, ℕ, List, length, nat_lt, not, bytes_eq, IfOk};
 ghost use Rattle.indexmap.specs.IndexMap.{get};
 ghost use Rattle.layout_rules.specs.Order.{rank};
-ghost use Rattle.f77_subs.specs.CallTable.{unit_named};
-ghost use Rattle.f77_subs.specs.Expansion.{declared_first as declared_first_of, total_width, whole_list as whole_list_of};
-ghost use Rattle.f77_subs.specs.Heights.{NoneCallsItself};
-ghost use Rattle.f77_subs.specs.LabelCounts.{labels_of};
-ghost use Rattle.f77_subs.specs.NamedTables.{AreFit, AreTablesFor};
+ghost use Rattle.program_units.specs.CallTable.{unit_named};
+ghost use Rattle.program_units.specs.Expansion.{declared_first as declared_first_of, total_width, whole_list as whole_list_of};
+ghost use Rattle.program_units.specs.Heights.{NoneCallsItself};
+ghost use Rattle.inlined_copies.specs.LabelCounts.{labels_of};
+ghost use Rattle.inlined_copies.specs.NamedTables.{AreTablesFor};
+ghost use Rattle.program_units.specs.Units.{AreFit};
 
-use crate::label_counts::LabelCounts;
-use crate::labels::label_counts;
-use crate::put_in::PutIn;
-use crate::splitting::Units;
-use crate::unit_table::{CopyOf, CopyTables};
+use crate::merging::Merging;
 use crate::unit_tables::unit_tables;
 use df_sequence::{NoMemory, Sequence};
 use f77_tree::{Labelled, LabelledList, Name, Stmt};
 use indexmap::IndexMap;
+use inlined_copies::{CopyOf, CopyTables, LabelCounts, label_counts};
+use program_units::Units;
 use std::alloc::Global;
 
 // A copy has fewer labels than this.
@@ -28,7 +27,7 @@ pub(crate) fn whole_list(
     alloc: Global,
     us: &Units,
     index: &IndexMap<Name, usize>,
-    put: &PutIn,
+    put: &Merging,
 ) -> Result<LabelledList, NoMemory>
     requires same { put.now.new.now.text.now.us.now ≡ us.now }
     requires index { (name : List ℕ) → get bytes_eq index.now name ≡ unit_named us.now name }
@@ -53,7 +52,7 @@ pub(crate) fn whole_list(
 }
 
 // The list, by the tables of all units.
-fn put_whole(alloc: Global, copies: &CopyTables, put: &PutIn) -> Result<Vec<Labelled>, NoMemory>
+fn put_whole(alloc: Global, copies: &CopyTables, put: &Merging) -> Result<Vec<Labelled>, NoMemory>
     requires same { put.now.new.now.text.now.us.now ≡ copies.now.units.us.now }
     requires tables { AreTablesFor copies.now }
     requires few { total_width copies.now.units.us.now ≤ 4000 }

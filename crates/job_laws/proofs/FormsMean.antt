@@ -11,9 +11,9 @@ use Rattle.f77_tree.specs.Steps.{StopsWithin}
 use Rattle.flat_programs.specs.declared.statements.FlatLine.{FlatLine}
 use Rattle.flat_programs.specs.FlatForm.{AreStatementsOf}
 use Rattle.flat_programs.specs.Text.{text as text_of}
-use Rattle.regenerate.specs.declared.ends.RewriteEnd.{RewriteEnd}
-use Rattle.regenerate.specs.RewrittenSteps.{FollowsWithin}
-use Rattle.regenerate.specs.declared.ends.RewriteEnd.TheVariants as rewrite_end
+use Rattle.shared_forms.specs.declared.ends.RewriteEnd.{RewriteEnd}
+use Rattle.shared_laws.specs.RewrittenSteps.{FollowsWithin}
+use Rattle.shared_forms.specs.declared.ends.RewriteEnd.TheVariants as rewrite_end
 use Rattle.rewriting.specs.Rewritten.{IsRewritten, IsRewrittenText, PassesLimit}
 use Rattle.read_back.specs.PrintedArrays.{HasNoPrintedArrays}
 use Rattle.read_back.specs.ReadAgain.{IsReadBack}

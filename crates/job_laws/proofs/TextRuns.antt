@@ -6,12 +6,12 @@ use Rattle.f77_tree.specs.declared.statements.Labelled.{Labelled}
 use Rattle.f77_tree.specs.Run.{Ended, State, source}
 use Rattle.layout_rules.specs.Layout.{layout}
 use Rattle.layout_rules.specs.Source.{IsSource}
-use Rattle.f77_subs.specs.declared.entity.Entity.{Entity}
-use Rattle.f77_subs.specs.Calls.{RunsAlike, called}
-use Rattle.f77_subs.specs.Refusals.{expansion}
-use Rattle.f77_subs.specs.Storage.{IsStorage}
-use Rattle.f77_subs.specs.Texts.{IsText}
-use Rattle.f77_subs.specs.Units.{units}
+use Rattle.program_units.specs.declared.entity.Entity.{Entity}
+use Rattle.program_units.specs.Calls.{RunsAlike, called}
+use Rattle.program_units.specs.Refusals.{expansion}
+use Rattle.program_units.specs.Storage.{IsStorage}
+use Rattle.program_units.specs.Texts.{IsText}
+use Rattle.program_units.specs.Units.{units}
 use Rattle.called_runs.specs.Expanded.{IsExpanded}
 use Rattle.called_runs.specs.RunsAsCalled.{HoldsByName, KeepsPace, KeepsPaceWithCalls, RunsAsCalled}
 use Rattle.called_runs.specs.SpareWords.{HasStorage}

@@ -4,10 +4,10 @@ use Rattle.op_table.specs.declared.Trap.{Trap}
 use Rattle.f77_tree.specs.declared.programs.Program.{Program}
 use Rattle.f77_tree.specs.declared.statements.Labelled.{Labelled}
 use Rattle.f77_tree.specs.Run.{Mark, Ended, EndsIn, Trapped, source}
-use Rattle.f77_subs.specs.declared.entity.Entity.{Entity}
-use Rattle.f77_subs.specs.Calls.{CallState, HasMark, ReachesText, called}
-use Rattle.f77_subs.specs.Storage.{IsStorage}
-use Rattle.f77_subs.specs.Units.{units}
+use Rattle.program_units.specs.declared.entity.Entity.{Entity}
+use Rattle.program_units.specs.Calls.{CallState, HasMark, ReachesText, called}
+use Rattle.program_units.specs.Storage.{IsStorage}
+use Rattle.program_units.specs.Units.{units}
 use Rattle.called_runs.specs.RunsAsCalled.{HoldsByName}
 use Rattle.f77_source.specs.Listed.{is_one_unit}
 use Rattle.f77_source.specs.Reading.{HasStatements}

@@ -18,8 +18,8 @@ use Rattle.f77_tree.specs.declared.statements.Labelled.{Labelled}
 use Rattle.f77_tree.specs.StatementGrammar.{WrittenStatement, is_of_subroutines, statement_of}
 use Rattle.f77_tree.proofs.AllLemmas.{All-nil, All-cons, All-first, All-rest}
 use Rattle.f77_tree.proofs.Subroutines.{guarded_subroutines}
-use Rattle.f77_subs.specs.declared.sub_end.SubEnd.{SubEnd}
-use Rattle.f77_subs.specs.Refusals.{expansion}
+use Rattle.program_units.specs.declared.sub_end.SubEnd.{SubEnd}
+use Rattle.program_units.specs.Refusals.{expansion}
 use Rattle.f77_source.specs.Listed.{stays_in_unit, is_one_unit, listed}
 use Rattle.flat_programs.specs.declared.statements.Flat.{Flat}
 use Rattle.flat_programs.specs.declared.statements.Flat.TheVariants.{Finish}

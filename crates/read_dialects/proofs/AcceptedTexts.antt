@@ -13,7 +13,7 @@ use Rattle.layout_rules.specs.Counts.{is_too_great}
 use Rattle.layout_rules.specs.Faults.{first_answer, answer_or}
 use Rattle.layout_rules.specs.LowestLines.{lowest_line}
 use Rattle.layout_rules.specs.Layout.{at_line, names_of, refusals_of_form, refusal, HasForm, program, layout, unless_refused, last_line}
-use Rattle.f77_subs.specs.declared.sub_end.SubEnd.{SubEnd}
+use Rattle.program_units.specs.declared.sub_end.SubEnd.{SubEnd}
 use Rattle.f77_source.specs.declared.source_end.Code.TheVariants as code
 use Rattle.f77_source.specs.declared.source_end.Refusal.{Refusal}
 use Rattle.f77_source.specs.Listed.{listed}

@@ -10,15 +10,15 @@ use Rattle.f77_tree.specs.declared.statements.Stmt.{Stmt, more_of-Stmt}
 use Rattle.f77_tree.specs.declared.statements.Stmt.TheVariants.{Assign, Print, Take, PickGoTo, SignIf, ThenIf', BlockIf, ElseIf, Do, Equivalence, Init}
 use Rattle.f77_tree.specs.Grammar.{Written, reading}
 use Rattle.f77_tree.specs.StatementGrammar.{WrittenStatement, WrittenItem, IsStatement, IsItem, IsVariable, IsStep, item_of, step_of, statement_of}
-use Rattle.f77_subs.specs.declared.sub_end.SubEnd.{SubEnd}
-use Rattle.f77_subs.specs.Copies.{Change, changed, changed_item, changed_step, changed_stmt, changes, Context, number_at}
-use Rattle.f77_subs.specs.declared.entity.Entity.{Entity}
-use Rattle.f77_subs.specs.Entities.{stands_for}
-use Rattle.f77_subs.specs.Expansion.{blocks, common_of, datas, is_running, put_in, ties, type_of, units_but_main, whole_list}
-use Rattle.f77_subs.specs.Names.{y_entities}
-use Rattle.f77_subs.specs.PutIn.{is_put_in}
-use Rattle.f77_subs.specs.Refusals.{expansion, list_unless, unit_refusal}
-use Rattle.f77_subs.specs.Units.{guard_of, in_first, is_end, unit_at, unit_of, units}
+use Rattle.program_units.specs.declared.sub_end.SubEnd.{SubEnd}
+use Rattle.program_units.specs.Copies.{Change, changed, changed_item, changed_step, changed_stmt, changes, Context, number_at}
+use Rattle.program_units.specs.declared.entity.Entity.{Entity}
+use Rattle.program_units.specs.Entities.{stands_for}
+use Rattle.program_units.specs.Expansion.{blocks, common_of, data_for, is_running, merged, equivalence_for, type_of, units_but_main, whole_list}
+use Rattle.program_units.specs.Names.{y_entities}
+use Rattle.program_units.specs.Merged.{is_merged}
+use Rattle.program_units.specs.Refusals.{expansion, list_unless, unit_refusal}
+use Rattle.program_units.specs.Units.{guard_of, in_first, is_end, unit_at, unit_of, units}
 use Rattle.expanded_sources.proofs.HeldPieces.{Holds, IsInUnit, Whole, all-come, list-holds, whole-append, whole-each, whole-flat, whole-map}
 use Rattle.f77_source.specs.Listed.{is_one_unit, listed}
 use Rattle.layout_rules.specs.Layout.{last_line}
@@ -131,20 +131,20 @@ module _ (us : List (List Labelled)) (are : ArePlainUnits us) where
     calls = λ c place s call can here kept is. all-come AnyContext (λ d. tt) c.depth (unit_of us call.name) (map (stands_for us c.unit c.arguments) call.arguments) (number_at us c.depth c.unit c.base place);
   }
 
-  -- ---- what is put in
+  -- ---- what is merged
 
   -- what is made of statements of declarations is one line each, or none
-  ties-plain : (k : ℕ) (s : Labelled) → ArePlainLines (ties us k s)
+  ties-plain : (k : ℕ) (s : Labelled) → ArePlainLines (equivalence_for us k s)
   ties-plain k s = by s.stmt
     where
-      by : (stmt : Stmt) → ArePlainLines (ties us k (record s { stmt = stmt }))
+      by : (stmt : Stmt) → ArePlainLines (equivalence_for us k (record s { stmt = stmt }))
       by (Equivalence groups) = (tt, tt)
       by _ = tt
 
-  datas-plain : (k : ℕ) (s : Labelled) → ArePlainLines (datas us k s)
+  datas-plain : (k : ℕ) (s : Labelled) → ArePlainLines (data_for us k s)
   datas-plain k s = by s.stmt
     where
-      by : (stmt : Stmt) → ArePlainLines (datas us k (record s { stmt = stmt }))
+      by : (stmt : Stmt) → ArePlainLines (data_for us k (record s { stmt = stmt }))
       by (Init parts) = (tt, tt)
       by _ = tt
 
@@ -155,20 +155,20 @@ module _ (us : List (List Labelled)) (are : ArePlainUnits us) where
   from_units-plain : (f : ℕ → Labelled → List Labelled) → ((k : ℕ) (s : Labelled) → ArePlainLines (f k s)) → ArePlainLines (from_units f)
   from_units-plain f each = whole-flat IsPlainStmt (λ k. flat_map (f k) (unit_at us k)) (λ k. whole-flat IsPlainStmt (f k) (each k) (unit_at us k)) (units_but_main us)
 
-  put_in-plain : ArePlainLines (put_in us)
-  put_in-plain =
+  merged-plain : ArePlainLines (merged us)
+  merged-plain =
       let line : ℕ = last_line (unit_at us 0) in
       let types : List Entity = filter (is_running us) (y_entities us) in
-      let commons : List (Option (List ℕ)) = filter (is_put_in us) (blocks us) in
+      let commons : List (Option (List ℕ)) = filter (is_merged us) (blocks us) in
       let declared : List Labelled = map (type_of us line) types ++ map (common_of us line) commons in
-      whole-append IsPlainStmt (declared ++ from_units (ties us)) (from_units (datas us))
-      (whole-append IsPlainStmt declared (from_units (ties us))
+      whole-append IsPlainStmt (declared ++ from_units (equivalence_for us)) (from_units (data_for us))
+      (whole-append IsPlainStmt declared (from_units (equivalence_for us))
       (whole-append IsPlainStmt (map (type_of us line) types) (map (common_of us line) commons) (whole-map IsPlainStmt (type_of us line) (λ e. tt) types) (whole-map IsPlainStmt (common_of us line) (λ b. tt) commons))
-      (from_units-plain (ties us) ties-plain))
-      (from_units-plain (datas us) datas-plain)
+      (from_units-plain (equivalence_for us) ties-plain))
+      (from_units-plain (data_for us) datas-plain)
 
   pub whole-plain : ArePlainLines (whole_list us)
-  whole-plain = list-holds us IsPlainStmt AnyContext copied tt put_in-plain
+  whole-plain = list-holds us IsPlainStmt AnyContext copied tt merged-plain
 
 -- ---- what a text comes to
 

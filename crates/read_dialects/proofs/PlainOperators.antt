@@ -15,7 +15,7 @@ use Rattle.f77_tree.specs.Grammar.{Written, Arguments, level, left_level, operat
 use Rattle.f77_tree.proofs.AllLemmas.{All-nil, All-cons, All-first, All-rest}
 use Rattle.declared_names.specs.Functions.{intrinsic_named}
 use Rattle.layout_rules.specs.Types.{Intrinsic, intrinsics}
-use Rattle.f77_subs.specs.Copies.{Change, pairs, intrinsic_or, changed_call, changed, changed_row}
+use Rattle.program_units.specs.Copies.{Change, pairs, intrinsic_or, changed_call, changed, changed_row}
 
 -- ---- expressions
 

@@ -1,12 +1,12 @@
 use Rattle.std.proofs.Common.{◌≡◌, Bool, List, [], None, refl}
 use Rattle.f77_tree.specs.declared.statements.Labelled.{Labelled}
 use Rattle.layout_rules.specs.Faults.{first_line}
-use Rattle.f77_subs.specs.declared.sub_end.SubEnd.TheVariants.{UnitOrder}
-use Rattle.f77_subs.proofs.AcceptedTables.{main-dummies}
-use Rattle.f77_subs.proofs.NoAnswer.{no-end, none-at}
-use Rattle.f77_subs.proofs.ReachedUnits.{callee-inside, some-unit}
-use Rattle.f77_subs.specs.Refusals.{end_at, is_out_of_unit, unit_refusal, unit_refusals}
-use Rattle.f77_subs.specs.Units.{dummies_of, unit_at, units}
+use Rattle.program_units.specs.declared.sub_end.SubEnd.TheVariants.{UnitOrder}
+use Rattle.unit_laws.proofs.AcceptedTables.{main-dummies}
+use Rattle.unit_laws.proofs.NoAnswer.{no-end, none-at}
+use Rattle.unit_laws.proofs.ReachedUnits.{callee-inside, some-unit}
+use Rattle.program_units.specs.Refusals.{end_at, is_out_of_unit, unit_refusal, unit_refusals}
+use Rattle.program_units.specs.Units.{dummies_of, unit_at, units}
 use Rattle.called_runs.proofs.ContextEntities.{context-entities, context-runs}
 use Rattle.called_runs.proofs.DeclaredAlike.{calls-right}
 use Rattle.called_runs.proofs.contexts.contexts_are_of_the_run.Goals as goal

@@ -6,11 +6,11 @@ use Rattle.layout_rules.specs.Appearances.{appearing}
 use Rattle.layout_rules.specs.Declarations.{is_array}
 use Rattle.layout_rules.specs.Layout.{names_of, program}
 use Rattle.copied_values.specs.SideBySide.{AreTied}
-use Rattle.f77_subs.specs.Copies.{changes}
-use Rattle.f77_subs.specs.Expansion.{whole_list}
-use Rattle.f77_subs.specs.Layouts.{own_program}
-use Rattle.f77_subs.specs.Storage.{placed}
-use Rattle.f77_subs.specs.Units.{stand_in, standing_in, unit_at, units}
+use Rattle.program_units.specs.Copies.{changes}
+use Rattle.program_units.specs.Expansion.{whole_list}
+use Rattle.program_units.specs.Layouts.{own_program}
+use Rattle.program_units.specs.Storage.{placed}
+use Rattle.program_units.specs.Units.{stand_in, standing_in, unit_at, units}
 use Rattle.called_runs.specs.PairedWords.{IsPaired, listed_spot}
 use Rattle.called_runs.proofs.KindsOfPlaces.{well-kinded-same}
 use Rattle.called_runs.proofs.PlainNames.{plain-appearing, plain-kinds}

@@ -2,11 +2,11 @@ use Rattle.std.proofs.Common.{subst}
 use Rattle.f77_tree.specs.declared.programs.Program.{Program}
 use Rattle.layout_rules.specs.Layout.{program}
 use Rattle.copied_values.specs.ChangedTables.{AreChangedTables}
-use Rattle.f77_subs.specs.Copies.{change_in}
-use Rattle.f77_subs.specs.Expansion.{whole_list}
-use Rattle.f77_subs.specs.Layouts.{own_program}
-use Rattle.f77_subs.specs.Storage.{placed}
-use Rattle.f77_subs.specs.Units.{standing_in, unit_at, units}
+use Rattle.program_units.specs.Copies.{change_in}
+use Rattle.program_units.specs.Expansion.{whole_list}
+use Rattle.program_units.specs.Layouts.{own_program}
+use Rattle.program_units.specs.Storage.{placed}
+use Rattle.program_units.specs.Units.{standing_in, unit_at, units}
 use Rattle.called_runs.proofs.ChangedNames.{changed-tables}
 use Rattle.called_runs.proofs.PlacedProgram.{laid-program}
 use Rattle.called_runs.proofs.contexts.tables_are_changed.Goals as goal

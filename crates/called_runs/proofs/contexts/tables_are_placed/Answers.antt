@@ -1,7 +1,7 @@
 use Rattle.f77_tree.proofs.WellFormedLaws.{well_formed-placed}
-use Rattle.f77_subs.specs.Expansion.{whole_list}
-use Rattle.f77_subs.specs.Layouts.{own_program}
-use Rattle.f77_subs.specs.Units.{unit_at, units}
+use Rattle.program_units.specs.Expansion.{whole_list}
+use Rattle.program_units.specs.Layouts.{own_program}
+use Rattle.program_units.specs.Units.{unit_at, units}
 use Rattle.called_runs.specs.PairedWords.{listed_spot}
 use Rattle.called_runs.proofs.contexts.tables_are_placed.Goals as goal
 

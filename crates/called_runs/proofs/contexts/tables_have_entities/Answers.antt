@@ -7,10 +7,10 @@ use Rattle.f77_tree.specs.Declarations.{IsNameInfo}
 use Rattle.f77_tree.specs.WellFormed.{IsWellFormed}
 use Rattle.layout_rules.specs.Layout.{layout}
 use Rattle.layout_rules.specs.Source.{IsSource}
-use Rattle.f77_subs.specs.Layouts.{own_program}
-use Rattle.f77_subs.specs.Refusals.{unit_refusal}
-use Rattle.f77_subs.specs.Texts.{IsText}
-use Rattle.f77_subs.specs.Units.{standing_in, unit_at, unit_or_none, units}
+use Rattle.program_units.specs.Layouts.{own_program}
+use Rattle.program_units.specs.Refusals.{unit_refusal}
+use Rattle.program_units.specs.Texts.{IsText}
+use Rattle.program_units.specs.Units.{standing_in, unit_at, unit_or_none, units}
 use Rattle.std.specs.Prelude.{Ok}
 use Rattle.called_runs.proofs.BlocksOfTexts.{unit-laid}
 use Rattle.called_runs.proofs.StandingNames.{entries}

@@ -4,10 +4,10 @@ use Rattle.called_runs.proofs.StandingCalls.{enters}
 use Rattle.called_runs.proofs.StandingIncrements.{increments-alike}
 use Rattle.called_runs.proofs.StandingOwn.{own-alike}
 use Rattle.called_runs.proofs.StandingReturns.{back-leads, has-label}
-use Rattle.f77_subs.specs.Contexts.{called}
-use Rattle.f77_subs.specs.Expansion.{whole_list}
-use Rattle.f77_subs.specs.ListedCopies.{called_context, copied_place, lines_before}
-use Rattle.f77_subs.specs.Units.{guard_of, unit_at, units}
+use Rattle.program_units.specs.Contexts.{called}
+use Rattle.program_units.specs.Expansion.{whole_list}
+use Rattle.program_units.specs.ListedCopies.{called_context, copied_place, lines_before}
+use Rattle.program_units.specs.Units.{guard_of, unit_at, units}
 use Rattle.std.specs.Prelude.{◌+◌, Some}
 use Rattle.f77_tree.specs.declared.statements.RawExpr.{RawExpr}
 use Rattle.called_runs.specs.CopiedKinds.{condition_of}

@@ -1,4 +1,4 @@
-use Rattle.f77_subs.specs.Units.{units}
+use Rattle.program_units.specs.Units.{units}
 use Rattle.called_runs.proofs.BlocksOfTexts.{none-great}
 use Rattle.called_runs.proofs.DeclaredAlike.{blocks-even}
 use Rattle.called_runs.proofs.EntityNames.{dims-kept, kinds-kept, names-apart}

@@ -3,8 +3,8 @@ use Rattle.std.specs.Prelude.{Ok}
 use Rattle.std.specs.List.{slice_get}
 use Rattle.f77_tree.specs.declared.programs.Program.{Program}
 use Rattle.layout_rules.specs.Layout.{layout, program}
-use Rattle.f77_subs.specs.Expansion.{whole_list}
-use Rattle.f77_subs.specs.Units.{units}
+use Rattle.program_units.specs.Expansion.{whole_list}
+use Rattle.program_units.specs.Units.{units}
 use Rattle.called_runs.specs.PairedWords.{IsPaired, IsPlacing, listed_spot}
 use Rattle.called_runs.proofs.OpeningLaw.{room, words-alike}
 use Rattle.called_runs.proofs.PlacedProgram.{laid-program}

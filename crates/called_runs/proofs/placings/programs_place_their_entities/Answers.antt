@@ -3,8 +3,8 @@ use Rattle.std.specs.Prelude.{Ok}
 use Rattle.f77_tree.specs.declared.programs.Program.{Program}
 use Rattle.layout_rules.specs.Layout.{layout, names_of, program}
 use Rattle.copied_values.proofs.SameTrees.{same-dims}
-use Rattle.f77_subs.specs.Expansion.{whole_list}
-use Rattle.f77_subs.specs.Units.{units}
+use Rattle.program_units.specs.Expansion.{whole_list}
+use Rattle.program_units.specs.Units.{units}
 use Rattle.called_runs.specs.PairedWords.{IsPlacing, listed_spot}
 use Rattle.called_runs.proofs.PlacedProgram.{laid-program, placing}
 use Rattle.called_runs.proofs.placings.programs_place_their_entities.Goals as goal

@@ -4,10 +4,10 @@ use Rattle.f77_tree.specs.declared.programs.Program.{Program}
 use Rattle.f77_tree.specs.declared.statements.Labelled.{Labelled}
 use Rattle.f77_tree.specs.Value.{word_at}
 use Rattle.f77_tree.specs.WellFormed.{IsWellFormed}
-use Rattle.f77_subs.specs.declared.entity.Entity.{Entity}
-use Rattle.f77_subs.specs.Expansion.{whole_list}
-use Rattle.f77_subs.specs.Storage.{IsStorage}
-use Rattle.f77_subs.specs.Units.{units}
+use Rattle.program_units.specs.declared.entity.Entity.{Entity}
+use Rattle.program_units.specs.Expansion.{whole_list}
+use Rattle.program_units.specs.Storage.{IsStorage}
+use Rattle.program_units.specs.Units.{units}
 use Rattle.called_runs.specs.Expanded.{IsExpanded}
 use Rattle.called_runs.proofs.RunGrounded.{run-grounds}
 use Rattle.called_runs.proofs.RunGrounds.{AreRunGrounds}

@@ -1,5 +1,5 @@
 use Rattle.copied_control.proofs.AcceptedUnits.{alone, closed-units, ends-in-units, placed}
-use Rattle.f77_subs.proofs.ReachedUnits.{unit-ended, unit-inside}
+use Rattle.unit_laws.proofs.ReachedUnits.{unit-ended, unit-inside}
 use Rattle.copied_control.proofs.listed_copies.units_keep_their_control.Goals as goal
 
 pub returns : goal.returns

@@ -2,7 +2,7 @@ use Rattle.std.proofs.Common.{◌≤◌, ◌++◌, ℕ, List, length, map, sym, 
 use Rattle.std.specs.Prelude.{bytes_eq}
 use Rattle.std.specs.List.{list_any}
 use Rattle.std.proofs.lemmas.List.{take_all}
-use Rattle.f77_subs.proofs.BlockPlaces.{among-at}
+use Rattle.entity_names.proofs.BlockPlaces.{among-at}
 use Rattle.copied_names.specs.CopiedNames.{HasNextPlace, becomes_as, copied_name}
 use Rattle.copied_names.proofs.ChangedNames.{becomes-is, next-place}
 use Rattle.copied_names.proofs.CopiedLists.{rows-more}

@@ -1,6 +1,6 @@
 use Rattle.std.proofs.Common.{◌≡◌, ◌++◌, ℕ, List, None, Option, ◌<◌, ◌^◌, length, append-nil, sym, ap, subst, ◌∙◌}
 use Rattle.std.specs.Prelude.{option_copied}
-use Rattle.f77_subs.specs.Units.{unit_at}
+use Rattle.program_units.specs.Units.{unit_at}
 use Rattle.copied_names.specs.CopiedNames.{first_dummies, names_by, subroutine}
 use Rattle.copied_names.proofs.copied.add_unit.Goals as goal
 

@@ -1,6 +1,6 @@
 use Rattle.std.proofs.Common.{length, inl, sym, ap, subst, ◌∙◌, arith}
-use Rattle.f77_subs.specs.NamedEntities.{AreAllNamed}
-use Rattle.f77_subs.specs.Refusals.{has_great_name}
+use Rattle.program_units.specs.NamedEntities.{AreAllNamed}
+use Rattle.program_units.specs.Refusals.{has_great_name}
 use Rattle.copied_names.specs.CopiedNames.{HaveDummiesFirst, copied_names, names_in_copies}
 use Rattle.copied_names.proofs.CopiedLists.{units-all, units-more}
 use Rattle.copied_names.proofs.copied.names_of_text.Goals as goal

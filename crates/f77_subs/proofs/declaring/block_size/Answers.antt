@@ -1,6 +1,6 @@
 use Rattle.std.proofs.Common.{◌≡◌, Some, None, sym, ◌∙◌, arith}
-use Rattle.f77_subs.specs.PutIn.{first_with_block}
-use Rattle.f77_subs.proofs.FirstBlocks.{no-size, size-kept, table-inside}
+use Rattle.program_units.specs.Merged.{first_with_block}
+use Rattle.entity_names.proofs.FirstBlocks.{no-size, size-kept, table-inside}
 use Rattle.f77_subs.proofs.declaring.block_size.Goals as goal
 
 pub index-requires : goal.index-requires

@@ -1,6 +1,6 @@
 use Rattle.std.proofs.Common.{ap, ◌∙◌}
-use Rattle.f77_subs.specs.Entities.{InBlock}
-use Rattle.f77_subs.specs.NamedEntities.{has_name}
+use Rattle.program_units.specs.declared.entity.Entity.TheVariants.{InBlock}
+use Rattle.program_units.specs.NamedEntities.{has_name}
 use Rattle.f77_subs.proofs.declaring.common_decl.Goals as goal
 
 pub name_for-requires : goal.name_for-requires

@@ -1,8 +1,8 @@
 use Rattle.std.proofs.Common.{◌≡◌, length, ap, ◌∙◌, arith}
 use Rattle.std.proofs.lemmas.List.FromFn.{length-map-range_with_len}
-use Rattle.f77_subs.specs.Expansion.{common_decl}
-use Rattle.f77_subs.proofs.FewPlaces.{places-few}
-use Rattle.f77_subs.proofs.PutDecls.{commons-more}
+use Rattle.program_units.specs.Expansion.{common_decl}
+use Rattle.entity_names.proofs.FewPlaces.{places-few}
+use Rattle.entity_names.proofs.PutDecls.{commons-more}
 use Rattle.f77_subs.proofs.declaring.common_decls.Goals as goal
 
 pub push-requires : goal.push-requires

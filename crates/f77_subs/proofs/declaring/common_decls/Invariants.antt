@@ -1,6 +1,6 @@
 use Rattle.std.proofs.Common.{◌≡◌, map}
 use Rattle.std.specs.List.{range_with_len}
-use Rattle.f77_subs.specs.Expansion.{common_decl}
+use Rattle.program_units.specs.Expansion.{common_decl}
 use Rattle.f77_subs.proofs.declaring.common_decls.Given as goal
 
 abbrev pub invariant-loop-i : goal.invariant-loop-i

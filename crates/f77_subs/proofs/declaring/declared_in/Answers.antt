@@ -1,13 +1,14 @@
 use Rattle.std.proofs.Common.{◌≡◌, Some, sym, ap, ◌∙◌, arith}
 use Rattle.std.specs.Option.{is_some}
 use Rattle.indexmap.specs.IndexMap.{get}
-use Rattle.f77_subs.specs.Entities.{Entity, InBlock}
-use Rattle.f77_subs.specs.Expansion.{declared_in}
-use Rattle.f77_subs.specs.NamedEntities.{is_declared}
-use Rattle.f77_subs.specs.Names.{same_entity}
-use Rattle.f77_subs.specs.PutIn.{first_with_block}
-use Rattle.f77_subs.proofs.FirstBlocks.{first-inside, name-kept, name-there, none-inside, table-inside}
-use Rattle.f77_subs.proofs.NamedEntities.{local-inside}
+use Rattle.program_units.specs.declared.entity.Entity.{Entity}
+use Rattle.program_units.specs.declared.entity.Entity.TheVariants.{InBlock}
+use Rattle.program_units.specs.Expansion.{declared_in}
+use Rattle.program_units.specs.NamedEntities.{is_declared}
+use Rattle.program_units.specs.Names.{same_entity}
+use Rattle.program_units.specs.Merged.{first_with_block}
+use Rattle.entity_names.proofs.FirstBlocks.{first-inside, name-kept, name-there, none-inside, table-inside}
+use Rattle.entity_names.proofs.NamedEntities.{local-inside}
 use Rattle.f77_subs.proofs.declaring.declared_in.Goals as goal
 
 pub index-requires : goal.index-requires

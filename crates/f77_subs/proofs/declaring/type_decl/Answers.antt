@@ -1,7 +1,7 @@
 use Rattle.std.proofs.Common.{ap, ◌∙◌}
 use Rattle.layout_rules.specs.Executables.{kind_or_integer}
-use Rattle.f77_subs.proofs.KeptNames.{kept-at}
-use Rattle.f77_subs.proofs.PutDecls.{decl-made, dims-told, kind-told}
+use Rattle.entity_names.proofs.KeptNames.{kept-at}
+use Rattle.entity_names.proofs.PutDecls.{decl-made, dims-told, kind-told}
 use Rattle.f77_subs.proofs.declaring.type_decl.Goals as goal
 
 pub returns-clause-kind : goal.returns-clause-kind

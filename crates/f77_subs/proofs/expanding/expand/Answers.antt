@@ -1,7 +1,7 @@
 use Rattle.std.proofs.Common.{List, ap, ◌∙◌}
 use Rattle.f77_tree.specs.declared.statements.Labelled.{Labelled}
-use Rattle.f77_subs.specs.Refusals.{expansion}
-use Rattle.f77_subs.proofs.AcceptedTexts.{accepted-of, refused-of}
+use Rattle.program_units.specs.Refusals.{expansion}
+use Rattle.unit_laws.proofs.AcceptedTexts.{accepted-of, refused-of}
 use Rattle.f77_subs.proofs.expanding.expand.Goals as goal
 
 pub returns-clause-accepted : goal.returns-clause-accepted

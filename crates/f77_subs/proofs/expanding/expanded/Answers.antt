@@ -1,15 +1,15 @@
 use Rattle.std.proofs.Common.{◌≡◌, ◌^◌, List, None, Option, sym, subst, ap, ◌∙◌, arith}
 use Rattle.f77_tree.specs.declared.statements.Labelled.{Labelled}
 use Rattle.layout_rules.specs.Faults.{first_answer}
-use Rattle.f77_subs.specs.declared.sub_end.SubEnd.{SubEnd}
-use Rattle.f77_subs.specs.Expansion.{whole_list}
-use Rattle.f77_subs.specs.Heights.{NoneCallsItself}
-use Rattle.f77_subs.specs.NamedEntities.{AreAllNamed}
-use Rattle.f77_subs.specs.NamedTables.{AreFit}
-use Rattle.f77_subs.specs.Refusals.{form_refusals, list_unless, size_refusals}
-use Rattle.f77_subs.proofs.AcceptedTexts.{are-fit, formed, none-recurs, sized}
-use Rattle.f77_subs.proofs.NamedEntities.{all-named}
-use Rattle.f77_subs.proofs.FewCalls.{few-edges, few-units}
+use Rattle.program_units.specs.declared.sub_end.SubEnd.{SubEnd}
+use Rattle.program_units.specs.Expansion.{whole_list}
+use Rattle.program_units.specs.Heights.{NoneCallsItself}
+use Rattle.program_units.specs.NamedEntities.{AreAllNamed}
+use Rattle.program_units.specs.Units.{AreFit}
+use Rattle.program_units.specs.Refusals.{form_refusals, list_unless, size_refusals}
+use Rattle.unit_laws.proofs.AcceptedTexts.{are-fit, formed, none-recurs, sized}
+use Rattle.entity_names.proofs.NamedEntities.{all-named}
+use Rattle.unit_checks.proofs.FewCalls.{few-edges, few-units}
 use Rattle.f77_subs.proofs.expanding.expanded.Goals as goal
 
 pub returns-in-Some : goal.returns-in-Some

@@ -1,8 +1,8 @@
 use Rattle.std.proofs.Common.{sym, ◌∙◌}
 use Rattle.layout_rules.specs.Faults.{first_answer}
-use Rattle.f77_subs.specs.Expansion.{whole_list}
-use Rattle.f77_subs.specs.Refusals.{size_refusals}
-use Rattle.f77_subs.proofs.AcceptedTexts.{few-numbers, few-statements, listed, refused}
+use Rattle.program_units.specs.Expansion.{whole_list}
+use Rattle.program_units.specs.Refusals.{size_refusals}
+use Rattle.unit_laws.proofs.AcceptedTexts.{few-numbers, few-statements, listed, refused}
 use Rattle.f77_subs.proofs.expanding.of_units.Goals as goal
 
 pub returns-in-Some : goal.returns-in-Some

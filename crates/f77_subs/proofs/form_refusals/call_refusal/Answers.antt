@@ -1,5 +1,5 @@
 use Rattle.std.proofs.Common.{◌^◌, arith}
-use Rattle.f77_subs.proofs.FewCalls.{few-edges, few-units}
+use Rattle.unit_checks.proofs.FewCalls.{few-edges, few-units}
 use Rattle.f77_subs.proofs.form_refusals.call_refusal.Goals as goal
 
 pub first_recursion-requires-clause-units : goal.first_recursion-requires-clause-units

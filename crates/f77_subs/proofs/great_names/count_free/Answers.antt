@@ -1,6 +1,6 @@
 use Rattle.std.proofs.Common.{◌+◌, ℕ, Bool, cond, ap, ◌∙◌, arith}
-use Rattle.f77_subs.specs.NewNames.{is_free_of}
-use Rattle.f77_subs.proofs.GreatNames.{counted-more}
+use Rattle.program_units.specs.NewNames.{is_free_of}
+use Rattle.entity_names.proofs.GreatNames.{counted-more}
 use Rattle.f77_subs.proofs.great_names.count_free.Goals as goal
 
 pub loop-i-preserved : goal.loop-i-preserved

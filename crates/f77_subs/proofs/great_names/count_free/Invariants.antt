@@ -1,6 +1,6 @@
 use Rattle.std.proofs.Common.{◌≡◌, ◌≤◌, filter, length}
 use Rattle.std.specs.List.{range_with_len}
-use Rattle.f77_subs.specs.NewNames.{is_free_of}
+use Rattle.program_units.specs.NewNames.{is_free_of}
 use Rattle.f77_subs.proofs.great_names.count_free.Given as goal
 
 abbrev pub invariant-loop-i : goal.invariant-loop-i

@@ -2,8 +2,8 @@ use Rattle.std.proofs.Common.{◌≡◌, ◌+◌, ◌≤◌, ℕ, Bool, List, fa
 use Rattle.std.specs.List.{range_with_len}
 use Rattle.std.proofs.lemmas.Bool.{ltb-false}
 use Rattle.layout_rules.specs.Appearances.{each_once}
-use Rattle.f77_subs.specs.NewNames.{is_free_of}
-use Rattle.f77_subs.proofs.GreatNames.{great-short, none-great, same-free}
+use Rattle.program_units.specs.NewNames.{is_free_of}
+use Rattle.entity_names.proofs.GreatNames.{great-short, none-great, same-free}
 use Rattle.f77_subs.proofs.great_names.has_number_above.Goals as goal
 
 pub returns-then-not-is_over : goal.returns-then-not-is_over

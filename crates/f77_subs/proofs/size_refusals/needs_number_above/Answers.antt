@@ -1,7 +1,7 @@
 use Rattle.std.proofs.Common.{◌≡◌, ℕ, List, length, nat_lt, take, ap, ◌∙◌}
 use Rattle.std.specs.List.{list_any}
-use Rattle.f77_subs.specs.Entities.{Entity}
-use Rattle.f77_subs.specs.Names.{free_numbers, used_names, y_entities}
+use Rattle.program_units.specs.declared.entity.Entity.{Entity}
+use Rattle.program_units.specs.Names.{free_numbers, used_names, y_entities}
 use Rattle.f77_subs.proofs.size_refusals.needs_number_above.Goals as goal
 
 pub returns : goal.returns

@@ -1,8 +1,8 @@
 use Rattle.std.proofs.Common.{sym, ◌∙◌}
 use Rattle.std.specs.Prelude.{nat_lt}
-use Rattle.f77_subs.specs.Expansion.{total_width}
-use Rattle.f77_subs.specs.Refusals.{has_great_name}
-use Rattle.f77_subs.proofs.SizesMet.{great-told, none-told, wide-told}
+use Rattle.program_units.specs.Expansion.{total_width}
+use Rattle.program_units.specs.Refusals.{has_great_name}
+use Rattle.unit_laws.proofs.SizesMet.{great-told, none-told, wide-told}
 use Rattle.f77_subs.proofs.size_refusals.size_refusal.Goals as goal
 
 pub returns-then-wide : goal.returns-then-wide

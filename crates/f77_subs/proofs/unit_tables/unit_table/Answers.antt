@@ -1,5 +1,5 @@
 use Rattle.std.proofs.Common.{refl}
-use Rattle.f77_subs.proofs.NamesOfTables.{table-of}
+use Rattle.inlined_copies.proofs.NamesOfTables.{table-of}
 use Rattle.f77_subs.proofs.unit_tables.unit_table.Goals as goal
 
 pub returns : goal.returns

@@ -1,8 +1,8 @@
 use Rattle.std.proofs.Common.{◌∷◌, [], ◌^◌, ℕ, List, length, sym, ap, subst, ◌∙◌, arith, length-append}
 use Rattle.std.specs.Prelude.{slice_get}
-use Rattle.f77_subs.specs.declared.unit_table.UnitTable.{UnitTable}
-use Rattle.f77_subs.specs.UnitTables.{IsTableOf}
-use Rattle.f77_subs.proofs.BadCalls.{each-push}
+use Rattle.inlined_copies.specs.declared.unit_table.UnitTable.{UnitTable}
+use Rattle.inlined_copies.specs.UnitTables.{IsTableOf}
+use Rattle.program_units.proofs.UnitsMet.{each-push}
 use Rattle.f77_subs.proofs.unit_tables.unit_tables.Goals as goal
 
 pub loop-k-preserved : goal.loop-k-preserved

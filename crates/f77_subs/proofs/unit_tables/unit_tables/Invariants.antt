@@ -1,7 +1,7 @@
 use Rattle.std.proofs.Common.{◌≡◌, ℕ, ◌^◌, length, Some}
 use Rattle.std.specs.Prelude.{slice_get}
-use Rattle.f77_subs.specs.declared.unit_table.UnitTable.{UnitTable}
-use Rattle.f77_subs.specs.UnitTables.{IsTableOf}
+use Rattle.inlined_copies.specs.declared.unit_table.UnitTable.{UnitTable}
+use Rattle.inlined_copies.specs.UnitTables.{IsTableOf}
 use Rattle.f77_subs.proofs.unit_tables.unit_tables.Given as goal
 
 abbrev pub invariant-loop-k : goal.invariant-loop-k

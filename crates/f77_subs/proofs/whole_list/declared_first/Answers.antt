@@ -2,7 +2,7 @@ use Rattle.std.proofs.Common.{◌≡◌, Bool, true, false, not, nat_lt, get_or,
 use Rattle.std.proofs.lemmas.Option.{slice_get-get_or}
 use Rattle.layout_rules.specs.Order.{rank}
 use Rattle.f77_tree.specs.declared.statements.Labelled.{Labelled}
-use Rattle.f77_subs.proofs.WholeLists.{stops-at}
+use Rattle.inlined_copies.proofs.WholeLists.{stops-at}
 use Rattle.f77_subs.proofs.whole_list.declared_first.Goals as goal
 
 not-false : (b : Bool) → false ≡ not b → b ≡ true

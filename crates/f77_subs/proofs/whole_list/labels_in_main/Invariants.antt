@@ -1,5 +1,5 @@
 use Rattle.std.proofs.Common.{◌≡◌, take}
-use Rattle.f77_subs.specs.LabelCounts.{labels_of}
+use Rattle.inlined_copies.specs.LabelCounts.{labels_of}
 use Rattle.f77_subs.proofs.whole_list.labels_in_main.Given as goal
 
 abbrev pub invariant-loop-s : goal.invariant-loop-s

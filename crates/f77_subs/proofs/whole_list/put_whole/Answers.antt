@@ -1,8 +1,8 @@
 use Rattle.std.proofs.Common.{◌++◌, List, [], ap, ◌∙◌, arith}
 use Rattle.f77_tree.specs.declared.statements.Labelled.{Labelled}
-use Rattle.f77_subs.specs.Expansion.{put_in}
-use Rattle.f77_subs.proofs.AcceptedTexts.{some-first}
-use Rattle.f77_subs.proofs.WholeLists.{main-back, main-front, main-whole}
+use Rattle.program_units.specs.Expansion.{merged}
+use Rattle.unit_laws.proofs.AcceptedTexts.{some-first}
+use Rattle.inlined_copies.proofs.WholeLists.{main-back, main-front, main-whole}
 use Rattle.f77_subs.proofs.whole_list.put_whole.Goals as goal
 
 pub at-main-requires : goal.at-main-requires
@@ -28,5 +28,5 @@ returns c =
     c.len.result c.len-2.result c.declared_first-first.result c.labels_in_main-before.result c.new-out.result.items c.put_pieces.new.out.items c.put_all.new.out.items c.put_pieces-2.new.out.items
     c.len.ensures c.len-2.ensures c.declared_first-first.ensures.count c.labels_in_main-before.ensures c.new-out.ensures.items
     c.in_ok-put_pieces.ensures
-    (c.in_ok-put_all.ensures ∙ ap (λ (ws : List (List Labelled)). c.put_pieces.new.out.items ++ put_in ws) c.requires.same)
+    (c.in_ok-put_all.ensures ∙ ap (λ (ws : List (List Labelled)). c.put_pieces.new.out.items ++ merged ws) c.requires.same)
     c.in_ok-put_pieces-2.ensures

@@ -1,9 +1,9 @@
 use Rattle.std.proofs.Common.{◌^◌, ℕ, List, sym, ap, subst, ◌∙◌}
 use Rattle.f77_tree.specs.declared.statements.Labelled.{Labelled}
-use Rattle.f77_subs.specs.declared.unit_table.UnitTable.{UnitTable}
-use Rattle.f77_subs.specs.LabelCounts.{AreCounted, count_at}
-use Rattle.f77_subs.specs.NamedTables.{AreTablesOf}
-use Rattle.f77_subs.proofs.WholeLists.{few-whole}
+use Rattle.inlined_copies.specs.declared.unit_table.UnitTable.{UnitTable}
+use Rattle.inlined_copies.specs.LabelCounts.{AreCounted, count_at}
+use Rattle.inlined_copies.specs.NamedTables.{AreTablesOf}
+use Rattle.inlined_copies.proofs.WholeLists.{few-whole}
 use Rattle.f77_subs.proofs.whole_list.whole_list.Goals as goal
 
 pub invariant_of-units : goal.invariant_of-units

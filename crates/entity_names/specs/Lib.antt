@@ -1,0 +1,2 @@
+pub mod UnitBlocks
+pub mod UnitEntities

@@ -1,7 +1,0 @@
-use Rattle.std.proofs.Common.{◌≡◌, drop}
-use Rattle.layout_rules.specs.Faults.{first_answer}
-use Rattle.f77_subs.specs.Refusals.{bad_block}
-use Rattle.f77_subs.proofs.bad_blocks.first_odd.Given as goal
-
-abbrev pub invariant-loop-k : goal.invariant-loop-k
-invariant-loop-k l = first_answer (bad_block l.us) l.us ≡ first_answer (bad_block l.us) (drop l.k l.us)

@@ -1,6 +1,0 @@
-use Rattle.std.proofs.Common.{◌≡◌, ℕ, List, Option, take}
-use Rattle.f77_subs.specs.BlockTables.{block_owner, owner_in}
-use Rattle.f77_subs.proofs.block_owners.block_owners.Given as goal
-
-abbrev pub invariant-loop-k : goal.invariant-loop-k
-invariant-loop-k l = (block : Option (List ℕ)) → owner_in l.owners block ≡ block_owner (take l.k l.us) block

@@ -1,7 +1,0 @@
-use Rattle.std.proofs.Common.{◌≡◌, map}
-use Rattle.std.specs.List.{range_with_len}
-use Rattle.f77_subs.specs.CallTable.{call_row}
-use Rattle.f77_subs.proofs.call_rows.call_rows.Given as goal
-
-abbrev pub invariant-loop-k : goal.invariant-loop-k
-invariant-loop-k l = l.rows.items ≡ map (call_row l.limit l.us) (range_with_len 0 l.k)

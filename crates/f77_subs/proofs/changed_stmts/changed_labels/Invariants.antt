@@ -1,6 +1,0 @@
-use Rattle.std.proofs.Common.{◌≡◌, map, take}
-use Rattle.f77_subs.specs.Changes.{changes_of}
-use Rattle.f77_subs.proofs.changed_stmts.changed_labels.Given as goal
-
-abbrev pub invariant-loop-label : goal.invariant-loop-label
-invariant-loop-label l = l.made ≡ map (changes_of l.c).jump (take l.label-index l.label-items)

@@ -1,7 +1,0 @@
-use Rattle.std.proofs.Common.{◌≡◌, map}
-use Rattle.std.specs.List.{range_with_len}
-use Rattle.f77_subs.specs.LabelRows.{label_row}
-use Rattle.f77_subs.proofs.labels.label_rows.Given as goal
-
-abbrev pub invariant-loop-k : goal.invariant-loop-k
-invariant-loop-k l = l.rows.items ≡ map (label_row l.limit l.us) (range_with_len 0 l.k)

@@ -1,6 +1,0 @@
-use Rattle.std.proofs.Common.{◌≡◌, take}
-use Rattle.f77_subs.specs.Expansion.{blocks}
-use Rattle.f77_subs.proofs.put_blocks.all_blocks.Given as goal
-
-abbrev pub invariant-loop-k : goal.invariant-loop-k
-invariant-loop-k l = l.blocks ≡ blocks (take l.k l.us)

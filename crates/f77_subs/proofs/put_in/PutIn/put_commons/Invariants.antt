@@ -1,7 +1,0 @@
-use Rattle.std.proofs.Common.{◌≡◌, ◌++◌, filter, map, take}
-use Rattle.f77_subs.specs.Expansion.{blocks, common_of}
-use Rattle.f77_subs.specs.PutIn.{is_put_in}
-use Rattle.f77_subs.proofs.put_in.PutIn.put_commons.Given as goal
-
-abbrev pub invariant-loop-i : goal.invariant-loop-i
-invariant-loop-i l = l.out.items ≡ l.initial.out.items ++ map (common_of l.self.new.now.text.now.us.now l.self.line) (filter (is_put_in l.self.new.now.text.now.us.now) (take l.i (blocks l.self.new.now.text.now.us.now)))

@@ -1,6 +1,0 @@
-use Rattle.std.proofs.Common.{◌≡◌, map, take}
-use Rattle.f77_subs.specs.Expansion.{init_for}
-use Rattle.f77_subs.proofs.put_storage.changed_parts.Given as goal
-
-abbrev pub invariant-loop-part : goal.invariant-loop-part
-invariant-loop-part l = l.made ≡ map (init_for l.new.text.now.us.now l.k) (take l.part-index l.part-items)

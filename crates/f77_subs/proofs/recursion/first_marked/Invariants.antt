@@ -1,6 +1,0 @@
-use Rattle.std.proofs.Common.{◌≡◌, ℕ, ◌<◌, None}
-use Rattle.f77_subs.specs.Refusals.{recursion}
-use Rattle.f77_subs.proofs.recursion.first_marked.Given as goal
-
-abbrev pub invariant-loop-k : goal.invariant-loop-k
-invariant-loop-k l = (j : ℕ) → j < l.k → recursion l.us j ≡ None

@@ -1,5 +1,0 @@
-use Rattle.f77_subs.proofs.Cutting.{IsCut}
-use Rattle.f77_subs.proofs.splitting.Units.of.Given as goal
-
-abbrev pub invariant-loop-i : goal.invariant-loop-i
-invariant-loop-i l = IsCut l.stmts l.spans.items l.from l.i

@@ -1,8 +1,0 @@
-use Rattle.std.proofs.Common.{◌≡◌, ℕ, List, take}
-use Rattle.std.specs.Prelude.{bytes_eq}
-use Rattle.indexmap.specs.IndexMap.{get}
-use Rattle.f77_subs.specs.CallTable.{unit_named}
-use Rattle.f77_subs.proofs.sub_index.sub_index.Given as goal
-
-abbrev pub invariant-loop-k : goal.invariant-loop-k
-invariant-loop-k l = (name : List ℕ) → get bytes_eq l.index name ≡ unit_named (take l.k l.us) name

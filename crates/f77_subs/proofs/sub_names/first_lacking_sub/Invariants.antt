@@ -1,7 +1,0 @@
-use Rattle.std.proofs.Common.{◌≡◌, take, drop}
-use Rattle.layout_rules.specs.Faults.{first_line, first_after}
-use Rattle.f77_subs.specs.Refusals.{lacks_sub}
-use Rattle.f77_subs.proofs.sub_names.first_lacking_sub.Given as goal
-
-abbrev pub invariant-loop-s : goal.invariant-loop-s
-invariant-loop-s l = first_line (lacks_sub l.stmts) l.stmts ≡ first_after (lacks_sub l.stmts) (take l.s-index l.stmts) (drop l.s-index l.stmts)

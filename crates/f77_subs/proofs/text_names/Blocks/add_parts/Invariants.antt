@@ -1,6 +1,0 @@
-use Rattle.std.proofs.Common.{◌≡◌, fold, map, take}
-use Rattle.f77_subs.specs.Expansion.{with_block}
-use Rattle.f77_subs.proofs.text_names.Blocks.add_parts.Given as goal
-
-abbrev pub invariant-loop-part : goal.invariant-loop-part
-invariant-loop-part l = l.self ≡ fold with_block l.initial.self (map (λ part. part.block) (take l.part-index l.parts))

@@ -1,7 +1,0 @@
-use Rattle.std.proofs.Common.{◌≡◌, fold, take}
-use Rattle.f77_subs.specs.Names.{with_entity}
-use Rattle.f77_subs.specs.UnitEntities.{own_by}
-use Rattle.f77_subs.proofs.text_names.add_own.Given as goal
-
-abbrev pub invariant-loop-i : goal.invariant-loop-i
-invariant-loop-i l = l.own ≡ fold with_entity l.initial.own (own_by l.main l.kept l.k (take l.i l.kept.names))

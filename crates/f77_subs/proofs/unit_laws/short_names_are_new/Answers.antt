@@ -1,6 +1,0 @@
-use Rattle.f77_subs.proofs.ShortNames.{short-apart, short-free}
-use Rattle.f77_subs.proofs.UsedNames.{new-by}
-use Rattle.f77_subs.proofs.unit_laws.short_names_are_new.Goals as goal
-
-pub returns : goal.returns
-returns c = record { free = short-free; apart = short-apart; others = λ us short few e is. new-by us e (short-free us short few e is) }

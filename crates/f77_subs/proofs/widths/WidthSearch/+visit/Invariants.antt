@@ -1,4 +1,0 @@
-use Rattle.f77_subs.proofs.widths.WidthSearch.+visit.Given as goal
-
-abbrev pub decreases-visit : goal.decreases-visit
-decreases-visit l = l.depth

@@ -1,6 +1,0 @@
-use Rattle.std.proofs.Common.{◌≡◌, map, take}
-use Rattle.f77_subs.specs.CallTable.{row_width}
-use Rattle.f77_subs.proofs.widths.next_widths.Given as goal
-
-abbrev pub invariant-loop-row : goal.invariant-loop-row
-invariant-loop-row l = l.next.items ≡ map (row_width l.limit l.widths) (take l.row-index l.rows)

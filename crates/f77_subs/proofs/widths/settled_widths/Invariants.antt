@@ -1,5 +1,0 @@
-use Rattle.f77_subs.specs.CallTable.{AreAfter}
-use Rattle.f77_subs.proofs.widths.settled_widths.Given as goal
-
-abbrev pub invariant-loop : goal.invariant-loop
-invariant-loop l = AreAfter l.limit l.rows l.counter l.widths.items

@@ -1,9 +1,0 @@
--- A unit by itself as a program.
-use Rattle.std.specs.Prelude.{Bool, List}
-use Rattle.f77_tree.specs.declared.statements.Labelled.{Labelled}
-use Rattle.f77_tree.specs.declared.programs.Program.{Program}
-use Rattle.layout_rules.specs.Layout.{program}
-use Rattle.f77_subs.specs.Units.{standing_in}
-
-abbrev pub own_program : List Labelled → (checked : Bool) → Program
-own_program u checked = program (standing_in u) checked

@@ -1,0 +1,7 @@
+use Rattle.std.proofs.Common.{◌≡◌, map}
+use Rattle.std.specs.List.{range_with_len}
+use Rattle.inlined_copies.specs.LabelRows.{label_row}
+use Rattle.inlined_copies.proofs.labels.label_rows.Given as goal
+
+abbrev pub invariant-loop-k : goal.invariant-loop-k
+invariant-loop-k l = l.rows.items ≡ map (label_row l.limit l.us) (range_with_len 0 l.k)

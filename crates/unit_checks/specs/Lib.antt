@@ -1,0 +1,4 @@
+pub mod CallGraph
+pub mod Alike
+pub mod Interfaces
+pub mod BlockTables

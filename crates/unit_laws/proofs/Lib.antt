@@ -1,0 +1,36 @@
+pub mod CopyWidths
+mod CopyLabels
+pub mod Settled
+pub mod SettledCopies
+pub mod StandInsGiven
+pub mod UnitSources
+pub mod PositiveLabels
+pub mod UnitHeights
+pub mod Kept
+pub mod Having
+pub mod SameEntities
+pub mod MergedDeclared
+pub mod PieceLabels
+pub mod BlockRoles
+pub mod NoAnswer
+pub mod ReachedUnits
+pub mod FreeNumbers
+pub mod OwnNames
+pub mod NotedEntities
+pub mod UsedNames
+pub mod ChangedAlike
+pub mod CalledNames
+pub mod MainNames
+pub mod NamesMet
+pub mod GreatNumbers
+pub mod ShortNames
+pub mod ManyBlocks
+pub mod AcceptedTables
+mod RefusalsMet
+pub mod TextNames
+pub mod SizesMet
+pub mod AcceptedTexts
+pub mod UnitNames
+pub mod StoredOwn
+pub mod CommonOnce
+pub mod FirstUnits
