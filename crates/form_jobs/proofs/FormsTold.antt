@@ -8,8 +8,8 @@ use Rattle.op_table.specs.declared.Trap.{Trap}
 use Rattle.f77_tree.specs.declared.programs.Program.{Program}
 use Rattle.f77_tree.specs.Run as runs
 use Rattle.f77_tree.specs.Run.{Mark, out, source}
-use Rattle.regenerate.specs.declared.ends.RewriteEnd.{RewriteEnd}
-use Rattle.regenerate.specs.declared.ends.RewriteEnd.TheVariants as rewrite_end
+use Rattle.shared_forms.specs.declared.ends.RewriteEnd.{RewriteEnd}
+use Rattle.shared_forms.specs.declared.ends.RewriteEnd.TheVariants as rewrite_end
 use Rattle.rewriting.specs.Rewritten.{IsRewrittenText, PassesLimit}
 use Rattle.form_jobs.specs.declared.run.RunEnd.{RunEnd}
 use Rattle.form_jobs.specs.declared.run.RunEnd.TheVariants as end

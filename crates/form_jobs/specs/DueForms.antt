@@ -7,8 +7,8 @@ use Rattle.f77_source.specs.declared.source_end.Code.TheVariants as text_code
 use Rattle.flat_programs.specs.declared.statements.FlatLine.{FlatLine}
 use Rattle.flat_programs.specs.FlatForm.{AreStatementsOf}
 use Rattle.flat_programs.specs.Text.{text as text_of}
-use Rattle.regenerate.specs.declared.ends.RewriteEnd.{RewriteEnd}
-use Rattle.regenerate.specs.declared.ends.RewriteEnd.TheVariants as rewrite_end
+use Rattle.shared_forms.specs.declared.ends.RewriteEnd.{RewriteEnd}
+use Rattle.shared_forms.specs.declared.ends.RewriteEnd.TheVariants as rewrite_end
 use Rattle.rewriting.specs.Rewritten.{IsRewritten, PassesLimit}
 use Rattle.job_terms.specs.declared.reading.Code.TheVariants as code
 use Rattle.job_terms.specs.Due.{Due, refusal, done, trapped_alone, stopped}

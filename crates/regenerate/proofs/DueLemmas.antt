@@ -6,9 +6,9 @@ use Rattle.cfg_build.specs.Joined.{FlowGraph}
 use Rattle.redundancy.specs.Available.{Availability, available_at}
 use Rattle.redundancy.specs.Computed.{computed_by}
 use Rattle.simplified_forms.specs.Items.{own_piece}
-use Rattle.regenerate.specs.Numbered.{added, number_of, numbers_in}
-use Rattle.regenerate.specs.Shared.{computed, due, is_available, is_shared}
-use Rattle.regenerate.proofs.SharingLemmas.{none-computed, numbers-computed}
+use Rattle.shared_forms.specs.Numbered.{added, number_of, numbers_in}
+use Rattle.shared_forms.specs.Shared.{computed, due, is_available, is_shared}
+use Rattle.shared_forms.proofs.SharingLemmas.{none-computed, numbers-computed}
 
 module _ (q : Program) (a : Availability) (f : FlowGraph) (k node : ℕ) (ns : List ℕ) (flows : f ≡ flow q.execs) (own : node ≡ own_piece q k) (are : ns ≡ numbers_in a.candidates (computed_by q.execs (piece_at f.pieces node))) where
   pub due-computed : fold added [] (filter (λ n. is_shared q a (number_of a) n && not (available_at a n node)) ns) ≡ due q a (number_of a) k

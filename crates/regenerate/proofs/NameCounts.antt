@@ -6,9 +6,9 @@ use Rattle.std.proofs.lemmas.List.{get_or_push, get_or_append_left, length_push}
 use Rattle.list_laws.proofs.Counts.{bit}
 use Rattle.f77_tree.specs.declared.programs.Program.{Program}
 use Rattle.redundancy.specs.Available.{Availability}
-use Rattle.regenerate.specs.Numbered.{number_of, temporary_of}
+use Rattle.shared_forms.specs.Numbered.{number_of, temporary_of}
 use Rattle.simplified_forms.specs.Plans.{answer, AreTold}
-use Rattle.regenerate.specs.Shared.{is_shared}
+use Rattle.shared_forms.specs.Shared.{is_shared}
 use Rattle.simplified_forms.specs.Tables.{AreAnswers}
 use Rattle.simplified_forms.proofs.RangeCounts.{count-range-more, count-range-same}
 

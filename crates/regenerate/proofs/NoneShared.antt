@@ -24,11 +24,11 @@ use Rattle.flat_programs.specs.Executables.{first_of}
 use Rattle.redundancy.specs.Available.{Availability}
 use Rattle.redundancy.specs.Computed.{computed_by}
 use Rattle.simplified_forms.specs.Items.{own_piece}
-use Rattle.regenerate.specs.Numbered.{name_alone, number_of}
-use Rattle.regenerate.specs.Shared.{computed, due, is_available, is_shared, kept_value, once, replaced, replaced_access, replaced_in, replaced_item, shared, shared_flat, shared_lines, temporary, temporary_or}
-use Rattle.regenerate.proofs.NumberLemmas.{number_in-within, numbers_in-below}
-use Rattle.regenerate.proofs.ReplacedLemmas.{replaced-Apply, replaced-Read}
-use Rattle.regenerate.proofs.SharedLineLemmas.{lines_to, lines-next}
+use Rattle.shared_forms.specs.Numbered.{name_alone, number_of}
+use Rattle.shared_forms.specs.Shared.{computed, due, is_available, is_shared, kept_value, once, replaced, replaced_access, replaced_in, replaced_item, shared, shared_flat, shared_lines, temporary, temporary_or}
+use Rattle.shared_forms.proofs.NumberLemmas.{number_in-within, numbers_in-below}
+use Rattle.shared_forms.proofs.ReplacedLemmas.{replaced-Apply, replaced-Read}
+use Rattle.shared_forms.proofs.SharedLineLemmas.{lines_to, lines-next}
 
 none_passes : (test : ℕ → Bool) (ns : List ℕ) → All (λ n. test n ≡ false) ns → filter test ns ≡ []
 none_passes test [] none = refl

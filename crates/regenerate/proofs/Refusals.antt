@@ -8,12 +8,12 @@ use Rattle.flat_programs.specs.declared.statements.FlatLine.{FlatLine}
 use Rattle.flat_programs.specs.Declarations.{commons, declared, group_statement, init_statement, typed_name}
 use Rattle.flat_programs.specs.Text.{has_long_text}
 use Rattle.redundancy.specs.Available.{Availability}
-use Rattle.regenerate.specs.declared.ends.RewriteEnd.{RewriteEnd}
-use Rattle.regenerate.specs.declared.ends.RewriteEnd.TheVariants.{TooManyNames, TooManyStatements, LongText}
-use Rattle.regenerate.specs.Numbered.{number_of}
-use Rattle.regenerate.specs.Shared.{has_many_names, most_words, refusal, shared, shared_flat, temporaries, with_temporaries}
+use Rattle.shared_forms.specs.declared.ends.RewriteEnd.{RewriteEnd}
+use Rattle.shared_forms.specs.declared.ends.RewriteEnd.TheVariants.{TooManyNames, TooManyStatements, LongText}
+use Rattle.shared_forms.specs.Numbered.{number_of}
+use Rattle.shared_forms.specs.Shared.{has_many_names, most_words, refusal, shared, shared_flat, temporaries, with_temporaries}
 use Rattle.simplified_forms.specs.Simplified.{has_many_statements, most_statements}
-use Rattle.regenerate.specs.Temporaries.{free_names}
+use Rattle.shared_forms.specs.Temporaries.{free_names}
 
 -- the first of three limits that is passed
 abbrev first_limit : (names statements text : Bool) → Option RewriteEnd

@@ -12,18 +12,18 @@ use Rattle.flat_programs.specs.Executables.{program_of}
 use Rattle.flat_programs.specs.FlatForm.{AreProper, AreStatementsOf, IsFlat}
 use Rattle.flat_programs.specs.Text.{has_long_text, text as text_of}
 use Rattle.redundancy.specs.Available.{Availability, IsAvailability}
-use Rattle.regenerate.specs.declared.ends.RewriteEnd.{RewriteEnd}
-use Rattle.regenerate.specs.declared.ends.RewriteEnd.TheVariants.{TooManyNames, TooManyStatements, LongText}
-use Rattle.regenerate.specs.Numbered.{number_of}
-use Rattle.regenerate.specs.Shared.{has_many_names, most_words, refusal, shared, shared_flat, with_temporaries, IsRefused, IsShared, IsSharedText, IsSharing}
+use Rattle.shared_forms.specs.declared.ends.RewriteEnd.{RewriteEnd}
+use Rattle.shared_forms.specs.declared.ends.RewriteEnd.TheVariants.{TooManyNames, TooManyStatements, LongText}
+use Rattle.shared_forms.specs.Numbered.{number_of}
+use Rattle.shared_forms.specs.Shared.{has_many_names, most_words, refusal, shared, shared_flat, with_temporaries, IsRefused, IsShared, IsSharedText, IsSharing}
 use Rattle.regenerate.specs.SharedParts.{declared_alone}
 use Rattle.simplified_forms.specs.Simplified.{has_many_statements, most_statements}
-use Rattle.regenerate.specs.Temporaries.{free_names}
-use Rattle.regenerate.proofs.NumberLemmas.{number_in-is}
-use Rattle.regenerate.proofs.ProperCandidates.{candidate-proper, place-number}
+use Rattle.shared_forms.specs.Temporaries.{free_names}
+use Rattle.shared_forms.proofs.NumberLemmas.{number_in-is}
+use Rattle.shared_forms.proofs.ProperCandidates.{candidate-proper, place-number}
 use Rattle.regenerate.proofs.Refusals.{enough-names, few-names, few-words, many-declared, many-lines, not-refused, refused-names, refused-statements, refused-text}
-use Rattle.regenerate.proofs.SharedProper.{FitTable, shared-proper}
-use Rattle.regenerate.proofs.SharedSpread.{shared-flat}
+use Rattle.shared_forms.proofs.SharedProper.{FitTable, shared-proper}
+use Rattle.shared_forms.proofs.SharedSpread.{shared-flat}
 
 -- a front that is as long as it is told to be is no longer than all
 front-most : (n : ℕ) (front all : List (List ℕ)) → length front ≡ n → front ≡ take n all → n ≤ length all

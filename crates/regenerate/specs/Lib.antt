@@ -1,7 +1,1 @@
-pub mod RewrittenSteps
-pub mod Temporaries
-pub mod Shared
-pub mod Numbered
-pub mod SharedRuns
 pub mod SharedParts
-pub mod SharedFlat

@@ -4,8 +4,8 @@ use Rattle.f77_tree.specs.declared.programs.Program.{Program}
 use Rattle.flat_programs.specs.declared.statements.FlatLine.{FlatLine}
 use Rattle.redundancy.specs.Available.{Availability}
 use Rattle.regenerate.specs.declared.shared_form.SharedParts.{SharedParts}
-use Rattle.regenerate.specs.Numbered.{number_of}
-use Rattle.regenerate.specs.Shared.{has_many_names, shared_flat, with_temporaries}
+use Rattle.shared_forms.specs.Numbered.{number_of}
+use Rattle.shared_forms.specs.Shared.{has_many_names, shared_flat, with_temporaries}
 
 -- the declarations of a program, without executables
 abbrev pub declared_alone : Program → Program

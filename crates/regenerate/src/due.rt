@@ -4,8 +4,8 @@ ghost use Rattle.std.specs.Prelude.{◌≡◌, ◌<◌, [], ◌&&◌, not, if◌
 ghost use Rattle.cfg_build.specs.Flow.{flow};
 ghost use Rattle.redundancy.specs.Available.{available_at};
 ghost use Rattle.simplified_forms.specs.Items.{own_piece};
-ghost use Rattle.regenerate.specs.Numbered.{added, AreTemporaries, number_of};
-ghost use Rattle.regenerate.specs.Shared.{due as due_at, is_one_of as is_among, is_shared};
+ghost use Rattle.shared_forms.specs.Numbered.{added, AreTemporaries, number_of};
+ghost use Rattle.shared_forms.specs.Shared.{due as due_at, is_one_of as is_among, is_shared};
 
 use crate::replacing::{Temporaries, name_of};
 use crate::sharing::computed;

@@ -3,11 +3,11 @@
 ghost use Rattle.std.specs.Prelude.{◌≡◌, ◌+◌, ◌<◌, ◌≤◌, ◌^◌, ◌++◌, [], pos, if◌then◌else◌, ◌∷◌, All, length, replicate, take, IfOk, OnOk};
 ghost use Rattle.f77_tree.specs.Line.{kind_of_expression};
 ghost use Rattle.f77_tree.specs.Value.{IsExpression};
-ghost use Rattle.regenerate.specs.Numbered.{number_of};
-ghost use Rattle.regenerate.specs.Shared.{candidate, is_shared, shared as all_shared, temporaries, with_temporaries as with_all};
+ghost use Rattle.shared_forms.specs.Numbered.{number_of};
+ghost use Rattle.shared_forms.specs.Shared.{candidate, is_shared, shared as all_shared, temporaries, with_temporaries as with_all};
 ghost use Rattle.regenerate.specs.SharedParts.{declared_alone};
 ghost use Rattle.simplified_forms.specs.Tables.{AreAnswers};
-ghost use Rattle.regenerate.specs.Temporaries.{free_names};
+ghost use Rattle.shared_forms.specs.Temporaries.{free_names};
 
 use df_sequence::{Copied, NoMemory, Sequence, WordList};
 use f77_meaning::kind_of_value;

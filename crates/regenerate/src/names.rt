@@ -2,9 +2,9 @@
 
 ghost use Rattle.std.specs.Prelude.{◌≡◌, ◌+◌, ◌<◌, ◌^◌, if◌then◌else◌, Some, None, length, count_by, IfOk};
 ghost use Rattle.std.specs.List.{range_with_len};
-ghost use Rattle.regenerate.specs.Numbered.{AreTemporaries, number_of};
+ghost use Rattle.shared_forms.specs.Numbered.{AreTemporaries, number_of};
 ghost use Rattle.simplified_forms.specs.Plans.{answer};
-ghost use Rattle.regenerate.specs.Shared.{is_shared};
+ghost use Rattle.shared_forms.specs.Shared.{is_shared};
 ghost use Rattle.simplified_forms.specs.Tables.{AreAnswers};
 
 use df_sequence::NoMemory;

@@ -2,8 +2,8 @@
 
 ghost use Rattle.std.specs.Prelude.{◌≡◌, ◌<◌, map, Option, Some, length, IfOk};
 ghost use Rattle.std.specs.Option.{option_and_then};
-ghost use Rattle.regenerate.specs.Numbered.{AreTemporaries, name_alone, number_of, temporary_of};
-ghost use Rattle.regenerate.specs.Shared.{replaced, replaced_access, replaced_in, replaced_item};
+ghost use Rattle.shared_forms.specs.Numbered.{AreTemporaries, name_alone, number_of, temporary_of};
+ghost use Rattle.shared_forms.specs.Shared.{replaced, replaced_access, replaced_in, replaced_item};
 
 use crate::sharing::number;
 use df_sequence::{Copied, NoMemory, Sequence};

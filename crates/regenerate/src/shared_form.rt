@@ -5,10 +5,9 @@ ghost use Rattle.cfg_build.specs.Flow.{flow};
 ghost use Rattle.f77_tree.specs.WellFormed.{IsWellFormed};
 ghost use Rattle.flat_programs.specs.FlatForm.{AreStatementsOf};
 ghost use Rattle.redundancy.specs.Available.{IsAvailability};
-ghost use Rattle.regenerate.specs.Shared.{IsRefused, IsShared, IsSharedText};
+ghost use Rattle.shared_forms.specs.Shared.{IsRefused, IsShared, IsSharedText};
 ghost use Rattle.regenerate.specs.SharedParts.{HasParts};
 
-use crate::ends::RewriteEnd;
 use crate::longer_table::{shared_numbers, with_temporaries};
 use crate::names::temporary_names;
 use crate::replacing::Temporaries;
@@ -22,6 +21,7 @@ use flat_programs::{
     FlatList, executables_tell_statements, has_long_text, print_unless_long, program_of,
 };
 use redundancy::Avail;
+use shared_forms::RewriteEnd;
 use simplified_forms::{MOST_STATEMENTS, has_many_statements};
 use std::alloc::Global;
 

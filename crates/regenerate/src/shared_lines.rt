@@ -3,8 +3,8 @@
 ghost use Rattle.std.specs.Prelude.{◌≡◌, ◌+◌, ◌<◌, ◌^◌, ◌++◌, [], ◌∷◌, All, map, length, reverse, IfOk, OnOk, MatchOption};
 ghost use Rattle.cfg_build.specs.Flow.{flow};
 ghost use Rattle.flat_programs.specs.Executables.{executables};
-ghost use Rattle.regenerate.specs.Numbered.{AreTemporaries, IsSharedNumber, number_of};
-ghost use Rattle.regenerate.specs.Shared.{kept_value as value_kept, replaced_in, shared as shared_of, shared_flat, temporary};
+ghost use Rattle.shared_forms.specs.Numbered.{AreTemporaries, IsSharedNumber, number_of};
+ghost use Rattle.shared_forms.specs.Shared.{kept_value as value_kept, replaced_in, shared as shared_of, shared_flat, temporary};
 ghost use Rattle.simplified_forms.specs.Simplified.{most_statements};
 
 use crate::due::due;

@@ -6,10 +6,10 @@ ghost use Rattle.redundancy.specs.Available.{available_at};
 ghost use Rattle.redundancy.specs.Candidates.{subexpressions};
 ghost use Rattle.redundancy.specs.Collected.{all_subexpressions};
 ghost use Rattle.redundancy.specs.Computed.{computed_by, expressions, in_item, selectors};
-ghost use Rattle.regenerate.specs.Numbered.{number_of, numbers_in, parts};
+ghost use Rattle.shared_forms.specs.Numbered.{number_of, numbers_in, parts};
 ghost use Rattle.simplified_forms.specs.Items.{own_piece};
 ghost use Rattle.simplified_forms.specs.Plans.{answer};
-ghost use Rattle.regenerate.specs.Shared.{computed as computed_at, is_available, is_one_of, is_shared};
+ghost use Rattle.shared_forms.specs.Shared.{computed as computed_at, is_available, is_one_of, is_shared};
 ghost use Rattle.simplified_forms.specs.Tables.{AreAnswers};
 
 use cfg_build::{Flow, Piece, PieceKind};

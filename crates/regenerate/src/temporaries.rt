@@ -4,7 +4,7 @@ ghost use Rattle.std.specs.Prelude.{◌≡◌, ◌+◌, ◌<◌, ◌≤◌, ◌|
 ghost use Rattle.f77_tree.specs.Name.{is_name};
 ghost use Rattle.simplified_forms.specs.Plans.{answer};
 ghost use Rattle.simplified_forms.specs.Tables.{AreAnswers};
-ghost use Rattle.regenerate.specs.Temporaries.{digit_at, free_names as all_free, is_in_use, last_number, temporary_name as name_of_temporary};
+ghost use Rattle.shared_forms.specs.Temporaries.{digit_at, free_names as all_free, is_in_use, last_number, temporary_name as name_of_temporary};
 
 use df_sequence::NoMemory;
 use f77_tree::{Name, NameInfoList};

@@ -21,8 +21,8 @@ use Rattle.flat_programs.specs.Executables.{program_of}
 use Rattle.flat_programs.specs.FlatForm.{AreStatementsOf}
 use Rattle.redundancy.specs.Available.{Availability, AreSameAvailability}
 use Rattle.redundancy.specs.Laws.{AvailabilityIsOneTable}
-use Rattle.regenerate.specs.declared.ends.RewriteEnd.{RewriteEnd}
-use Rattle.regenerate.specs.Shared.{refusal, shared_program, IsSharing}
+use Rattle.shared_forms.specs.declared.ends.RewriteEnd.{RewriteEnd}
+use Rattle.shared_forms.specs.Shared.{refusal, shared_program, IsSharing}
 use Rattle.simplified_forms.specs.Simplified.{flat, has_many_statements, AreSimplified}
 use Rattle.rewriting.specs.OneForm.{OneLimit, OneRewrittenForm, OneSimplifiedForm, RewrittenPassesNoLimit}
 use Rattle.rewriting.specs.Rewritten.{AreAvailableOf, AreConstantsOf, IsRefusedOf, IsSharedOf, IsSimplifiedOf, HasManySimplifiedOf}

@@ -14,8 +14,8 @@ use Rattle.const_prop.specs.Right.{AreRouted}
 use Rattle.const_prop.specs.Table.{Knowns}
 use Rattle.redundancy.specs.Available.{Availability}
 use Rattle.simplified_laws.specs.InStep.{SimplifiedProgramsLeaveTheSameWords, SimplifiedProgramsPrintAlike}
-use Rattle.regenerate.specs.RewrittenSteps.{RewrittenProgramsFollow}
-use Rattle.regenerate.specs.SharedRuns.{IsSharedBy}
+use Rattle.shared_laws.specs.RewrittenSteps.{RewrittenProgramsFollow}
+use Rattle.shared_laws.specs.SharedRuns.{IsSharedBy}
 use Rattle.rewriting.specs.Rewritten.{AreConstantsOf, IsSharedOf, IsSimplifiedOf}
 use Rattle.rewriting.specs.Running.{RewrittenProgramsLeaveTheSameWords, RewrittenProgramsPrintAlike, RewrittenProgramsTakeFewSteps}
 

@@ -16,11 +16,11 @@ use Rattle.flat_programs.specs.declared.statements.FlatLine.{FlatLine}
 use Rattle.flat_programs.specs.Executables.{first_of, program_of}
 use Rattle.flat_programs.specs.Text.{has_long_text}
 use Rattle.redundancy.specs.Available.{Availability}
-use Rattle.regenerate.specs.declared.ends.RewriteEnd.{RewriteEnd}
-use Rattle.regenerate.specs.declared.ends.RewriteEnd.TheVariants.{TooManyNames, TooManyStatements, LongText}
-use Rattle.regenerate.specs.Shared.{candidate, due, expression_in, has_many_names, is_shared, kept_value, most_words, refusal, replaced, replaced_access, replaced_in, replaced_item, row_replaced, scalar, shared, shared_flat, shared_lines, shared_program, temporaries, temporary, temporary_at, temporary_or, with_temporaries}
+use Rattle.shared_forms.specs.declared.ends.RewriteEnd.{RewriteEnd}
+use Rattle.shared_forms.specs.declared.ends.RewriteEnd.TheVariants.{TooManyNames, TooManyStatements, LongText}
+use Rattle.shared_forms.specs.Shared.{candidate, due, expression_in, has_many_names, is_shared, kept_value, most_words, refusal, replaced, replaced_access, replaced_in, replaced_item, row_replaced, scalar, shared, shared_flat, shared_lines, shared_program, temporaries, temporary, temporary_at, temporary_or, with_temporaries}
 use Rattle.simplified_forms.specs.Simplified.{has_many_statements}
-use Rattle.regenerate.specs.Temporaries.{free_names}
+use Rattle.shared_forms.specs.Temporaries.{free_names}
 
 module _ (q : Program) (a b : Availability) (number : Expr → Option ℕ) (candidates : a.candidates ≡ b.candidates) (shares : is_shared q a number ≡ is_shared q b number) (dues : due q a number ≡ due q b number) where
   -- ---- temporaries

@@ -13,7 +13,7 @@ use Rattle.cfg_build.specs.Flow.{flow, piece_at, piece_in}
 use Rattle.redundancy.specs.Available.{Availability, AreSameAvailability}
 use Rattle.redundancy.specs.Computed.{computed_by}
 use Rattle.simplified_forms.specs.Items.{own_piece}
-use Rattle.regenerate.specs.Shared.{computed, due, is_available, is_one_of, is_shared, once, AreNumbers}
+use Rattle.shared_forms.specs.Shared.{computed, due, is_available, is_one_of, is_shared, once, AreNumbers}
 use Rattle.rewriting.proofs.SameStatements.{and_same}
 
 -- ---- numbers

@@ -2,7 +2,7 @@
 use Rattle.std.specs.Prelude.{◌≡◌, Bool}
 use Rattle.f77_tree.specs.declared.programs.Program.{Program}
 use Rattle.f77_tree.specs.WellFormed.{IsWellFormed}
-use Rattle.regenerate.specs.declared.ends.RewriteEnd.{RewriteEnd}
+use Rattle.shared_forms.specs.declared.ends.RewriteEnd.{RewriteEnd}
 use Rattle.rewriting.specs.Rewritten.{IsRewritten, IsSimplifiedOf, PassesLimit}
 
 -- two simplified forms of a program are the same

@@ -14,9 +14,9 @@ use Rattle.flat_programs.specs.declared.statements.FlatLine.{FlatLine}
 use Rattle.flat_programs.specs.FlatForm.{AreStatementsOf, IsFlatProgram}
 use Rattle.flat_programs.specs.Text.{text as text_of}
 use Rattle.redundancy.specs.Available.{Availability, IsAvailability}
-use Rattle.regenerate.specs.declared.ends.RewriteEnd.{RewriteEnd}
-use Rattle.regenerate.specs.declared.ends.RewriteEnd.TheVariants.{TooManyStatements}
-use Rattle.regenerate.specs.Shared.{IsRefused, IsShared, IsSharedText}
+use Rattle.shared_forms.specs.declared.ends.RewriteEnd.{RewriteEnd}
+use Rattle.shared_forms.specs.declared.ends.RewriteEnd.TheVariants.{TooManyStatements}
+use Rattle.shared_forms.specs.Shared.{IsRefused, IsShared, IsSharedText}
 use Rattle.simplified_forms.specs.Simplified.{HasManySimplified, IsSimplified}
 
 -- ---- the simplified form

@@ -5,7 +5,7 @@ use Rattle.f77_tree.specs.declared.programs.Program.{Program}
 use Rattle.f77_tree.specs.Run.{source, Ended, PrintAlike}
 use Rattle.f77_tree.specs.Value.{word_at}
 use Rattle.f77_tree.specs.WellFormed.{IsWellFormed}
-use Rattle.regenerate.specs.RewrittenSteps.{FollowsWithin}
+use Rattle.shared_laws.specs.RewrittenSteps.{FollowsWithin}
 use Rattle.rewriting.specs.Rewritten.{IsRewritten}
 
 -- The rewritten form of a program prints what the program prints, over data of words: it writes the same, ends where the program ends,

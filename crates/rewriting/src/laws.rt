@@ -9,7 +9,7 @@ use constant_laws::{one_table_of_constants, own_touches_route};
 use dep_routing::one_touching;
 use flat_programs::executables_tell_statements;
 use redundancy::one_table_of_availability;
-use regenerate::{rewritten_programs_take_few_steps, shared_programs_print_alike};
+use shared_laws::{rewritten_programs_take_few_steps, shared_programs_print_alike};
 use simplified_laws::simplified_programs_print_alike;
 
 /// A program has at most one simplified form in a dialect and at most one rewritten form, whatever tables they are made by. One that has

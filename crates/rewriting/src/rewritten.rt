@@ -16,7 +16,9 @@ use f77_tree::Program;
 use flat_programs::FlatList;
 use flow_analysis::{Analysis, analyze};
 use redundancy::available;
-use regenerate::{RewriteEnd, share, share_text, shared_programs_are_flat};
+use regenerate::{share, share_text};
+use shared_forms::RewriteEnd;
+use shared_laws::shared_programs_are_flat;
 use simplified_forms::{FlatEnd, Simplified, simplify};
 use simplified_laws::{
     simplified_programs_are_flat, simplified_programs_have_no_more_classes,

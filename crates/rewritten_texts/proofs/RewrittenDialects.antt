@@ -3,7 +3,7 @@ use Rattle.std.proofs.Common.{Bool, All, sym, subst}
 use Rattle.f77_tree.specs.declared.programs.Program.{Program}
 use Rattle.f77_tree.specs.Dialects.{IsOfDialect}
 use Rattle.cfg_build.specs.Flow.{flow}
-use Rattle.regenerate.specs.Shared.{shared_flat}
+use Rattle.shared_forms.specs.Shared.{shared_flat}
 use Rattle.rewriting.specs.Rewritten.{IsRewritten, IsSharedOf, IsSimplifiedOf}
 use Rattle.rewritten_texts.proofs.FlatDialects.{StandFirst, AreOnly, LineHasDialect, ExecIsOfDialect, flat-dialect, executables-dialect}
 use Rattle.rewritten_texts.proofs.SimplifiedDialects.{simplified-dialect}

@@ -11,7 +11,7 @@ use Rattle.f77_tree.specs.Value.{dims_of}
 use Rattle.f77_tree.proofs.AllLemmas.{All-first, All-nil, All-rest}
 use Rattle.layout_rules.specs.Types.{is_array_in}
 use Rattle.redundancy.specs.Available.{Availability}
-use Rattle.regenerate.specs.Shared.{shared, temporaries, temporary_at, temporary_info, with_temporaries}
+use Rattle.shared_forms.specs.Shared.{shared, temporaries, temporary_at, temporary_info, with_temporaries}
 use Rattle.read_back.specs.PrintedArrays.{HasNoPrintedArrays}
 use Rattle.rewritten_texts.proofs.FoldedDialects.{all-flat_map, all-one}
 use Rattle.rewritten_texts.proofs.SimplifiedDialects.{Anything, anything}

@@ -15,9 +15,9 @@ use Rattle.flat_programs.specs.Declarations.{declared}
 use Rattle.flat_programs.specs.FlatForm.{AreProper, AreStatementsOf, IsFlat, IsFlatProgram}
 use Rattle.flat_programs.specs.Text.{has_long_text, text as text_of}
 use Rattle.redundancy.specs.Available.{Availability, IsAvailability}
-use Rattle.regenerate.specs.declared.ends.RewriteEnd.TheVariants.{TooManyNames, TooManyStatements, LongText}
-use Rattle.regenerate.specs.Shared.{has_many_names, shared_flat, shared_program, with_temporaries, IsShared}
-use Rattle.regenerate.specs.SharedFlat.{SharedStatementsAreFlat}
+use Rattle.shared_forms.specs.declared.ends.RewriteEnd.TheVariants.{TooManyNames, TooManyStatements, LongText}
+use Rattle.shared_forms.specs.Shared.{has_many_names, shared_flat, shared_program, with_temporaries, IsShared}
+use Rattle.shared_laws.specs.SharedFlat.{SharedStatementsAreFlat}
 use Rattle.simplified_forms.specs.Simplified.{has_many_statements, most_statements}
 use Rattle.rewriting.specs.Rewritten.{IsRewritten, IsSharedOf}
 use Rattle.read_back.specs.PrintedArrays.{HasNoPrintedArrays}

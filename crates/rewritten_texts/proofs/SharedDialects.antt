@@ -25,7 +25,7 @@ use Rattle.flat_programs.specs.Executables.{first_of}
 use Rattle.redundancy.specs.Available.{Availability}
 use Rattle.redundancy.specs.Candidates.{subexpressions, row_subexpressions}
 use Rattle.redundancy.specs.Computed.{all_computed, computed_by, evaluated, expressions, in_item, kind_of_piece, selectors, AreCandidates}
-use Rattle.regenerate.specs.Shared.{due, expression_in, is_shared, kept_value, replaced, replaced_in, replaced_item, row_replaced, scalar, shared_flat, shared_lines, temporary, temporary_or}
+use Rattle.shared_forms.specs.Shared.{due, expression_in, is_shared, kept_value, replaced, replaced_in, replaced_item, row_replaced, scalar, shared_flat, shared_lines, temporary, temporary_or}
 use Rattle.rewritten_texts.proofs.FlatDialects.{FlatHasDialect, LineHasDialect}
 use Rattle.rewritten_texts.proofs.FoldedDialects.{all-flat_map, all-map, all-one}
 use Rattle.rewritten_texts.proofs.SimplifiedDialects.{Anything, anything, at-dialect}

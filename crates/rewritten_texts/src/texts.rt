@@ -8,7 +8,7 @@ use read_back::{
     printed_programs_are_one_unit, printed_programs_have_their_statements,
     printed_text_is_read_back,
 };
-use regenerate::{shared_programs_are_flat, shared_statements_are_flat};
+use shared_laws::{shared_programs_are_flat, shared_statements_are_flat};
 
 /// The rewritten form of a program is a well-formed program whose statements are few and short enough for a source text. The temporaries
 /// are scalars, so no array bears a name with which an intrinsic function is printed, where none of the program does.

@@ -3,7 +3,7 @@ use Rattle.std.specs.Prelude.{IfOk}
 use Rattle.cfg_build.specs.Flow.{piece_at}
 use Rattle.redundancy.specs.Computed.{computed_by}
 use Rattle.regenerate.proofs.DueLemmas.{due-computed, due-none}
-use Rattle.regenerate.proofs.SharingLemmas.{numbers_at-below}
+use Rattle.shared_forms.proofs.SharingLemmas.{numbers_at-below}
 use Rattle.regenerate.proofs.due.due.Goals as goal
 
 pub due_among-requires-clause-numbers : goal.due_among-requires-clause-numbers

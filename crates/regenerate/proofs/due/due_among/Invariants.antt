@@ -1,7 +1,7 @@
 use Rattle.std.proofs.Common.{◌≡◌, ◌&&◌, not, [], filter, fold, take}
 use Rattle.redundancy.specs.Available.{available_at}
-use Rattle.regenerate.specs.Numbered.{added, number_of}
-use Rattle.regenerate.specs.Shared.{is_shared}
+use Rattle.shared_forms.specs.Numbered.{added, number_of}
+use Rattle.shared_forms.specs.Shared.{is_shared}
 use Rattle.regenerate.proofs.due.due_among.Given as goal
 
 abbrev pub invariant-loop-n : goal.invariant-loop-n

@@ -1,5 +1,5 @@
 use Rattle.std.proofs.Common.{◌≡◌, false, take}
-use Rattle.regenerate.specs.Shared.{is_one_of}
+use Rattle.shared_forms.specs.Shared.{is_one_of}
 use Rattle.regenerate.proofs.due.is_one_of.Given as goal
 
 abbrev pub invariant-loop-m : goal.invariant-loop-m

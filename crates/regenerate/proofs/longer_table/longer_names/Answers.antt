@@ -2,10 +2,10 @@ use Rattle.std.proofs.Common.{◌≡◌, ◌+◌, ◌<◌, [], List, ℕ, length
 use Rattle.std.specs.Prelude.{slice_get}
 use Rattle.std.proofs.lemmas.List.{get_or_read, length_push}
 use Rattle.std.proofs.lemmas.Option.{slice_get-get_or}
-use Rattle.regenerate.specs.Numbered.{number_of}
-use Rattle.regenerate.specs.Shared.{shared}
-use Rattle.regenerate.specs.Temporaries.{free_names}
-use Rattle.regenerate.proofs.LongerTableLemmas.{info-is, temporaries-next, shared-below}
+use Rattle.shared_forms.specs.Numbered.{number_of}
+use Rattle.shared_forms.specs.Shared.{shared}
+use Rattle.shared_forms.specs.Temporaries.{free_names}
+use Rattle.shared_forms.proofs.LongerTableLemmas.{info-is, temporaries-next, shared-below}
 use Rattle.regenerate.proofs.longer_table.longer_names.Goals as goal
 
 pub temporary_info-info-requires-clause-n : goal.temporary_info-info-requires-clause-n

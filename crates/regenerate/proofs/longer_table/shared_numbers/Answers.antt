@@ -1,7 +1,7 @@
 use Rattle.std.proofs.Common.{◌<◌, false, length, get_or, arith}
-use Rattle.regenerate.specs.Numbered.{number_of}
-use Rattle.regenerate.specs.Shared.{is_shared}
-use Rattle.regenerate.proofs.LongerTableLemmas.{numbers-more}
+use Rattle.shared_forms.specs.Numbered.{number_of}
+use Rattle.shared_forms.specs.Shared.{is_shared}
+use Rattle.shared_forms.proofs.LongerTableLemmas.{numbers-more}
 use Rattle.regenerate.proofs.longer_table.shared_numbers.Goals as goal
 
 pub loop-n-preserved : goal.loop-n-preserved

@@ -1,7 +1,7 @@
 use Rattle.std.proofs.Common.{◌≡◌, filter}
 use Rattle.std.specs.List.{range_with_len}
-use Rattle.regenerate.specs.Numbered.{number_of}
-use Rattle.regenerate.specs.Shared.{is_shared}
+use Rattle.shared_forms.specs.Numbered.{number_of}
+use Rattle.shared_forms.specs.Shared.{is_shared}
 use Rattle.regenerate.proofs.longer_table.shared_numbers.Given as goal
 
 abbrev pub invariant-loop-n : goal.invariant-loop-n

@@ -1,5 +1,5 @@
 use Rattle.std.proofs.Common.{◌<◌, ◌+◌, List, ℕ, Option, length, refl, sym, subst, ◌∙◌, arith}
-use Rattle.regenerate.specs.Numbered.{temporary_of}
+use Rattle.shared_forms.specs.Numbered.{temporary_of}
 use Rattle.simplified_forms.specs.Plans.{answer, AreTold}
 use Rattle.regenerate.proofs.NameCounts.{count_within, told-push, temporary-told}
 use Rattle.simplified_forms.proofs.RangeCounts.{byte-bit, count-range-more}

@@ -1,6 +1,6 @@
 use Rattle.std.proofs.Common.{◌≡◌, ◌+◌, length}
 use Rattle.std.specs.List.{range_with_len, count_by}
-use Rattle.regenerate.specs.Numbered.{temporary_of}
+use Rattle.shared_forms.specs.Numbered.{temporary_of}
 use Rattle.simplified_forms.specs.Plans.{answer, AreTold}
 use Rattle.regenerate.proofs.names.temporary_names.Given as goal
 

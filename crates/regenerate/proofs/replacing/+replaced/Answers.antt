@@ -1,6 +1,6 @@
 use Rattle.std.proofs.Common.{ap, ◌∙◌}
 use Rattle.f77_tree.specs.declared.expressions.Expr.{Read}
-use Rattle.regenerate.proofs.ReplacedLemmas.{replaced-Read, replaced-other}
+use Rattle.shared_forms.proofs.ReplacedLemmas.{replaced-Read, replaced-other}
 use Rattle.regenerate.proofs.replacing.+replaced.Goals as goal
 
 pub replace-returns-in_ok-replace_access-in-Read : goal.replace-returns-in_ok-replace_access-in-Read

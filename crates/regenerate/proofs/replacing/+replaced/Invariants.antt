@@ -1,6 +1,6 @@
 use Rattle.std.proofs.Common.{◌≡◌, take, map}
-use Rattle.regenerate.specs.Numbered.{number_of}
-use Rattle.regenerate.specs.Shared.{replaced}
+use Rattle.shared_forms.specs.Numbered.{number_of}
+use Rattle.shared_forms.specs.Shared.{replaced}
 use Rattle.regenerate.proofs.replacing.+replaced.Given as goal
 
 abbrev pub invariant-replace_all-loop-e : goal.invariant-replace_all-loop-e

@@ -1,6 +1,6 @@
 use Rattle.std.proofs.Common.{◌≡◌, take, map}
-use Rattle.regenerate.specs.Numbered.{number_of}
-use Rattle.regenerate.specs.Shared.{replaced_item}
+use Rattle.shared_forms.specs.Numbered.{number_of}
+use Rattle.shared_forms.specs.Shared.{replaced_item}
 use Rattle.regenerate.proofs.replacing.replace_items.Given as goal
 
 abbrev pub invariant-loop-item : goal.invariant-loop-item

@@ -1,5 +1,5 @@
 use Rattle.std.proofs.Common.{sym, ◌∙◌}
-use Rattle.regenerate.proofs.NumberLemmas.{number_in-within}
+use Rattle.shared_forms.proofs.NumberLemmas.{number_in-within}
 use Rattle.regenerate.proofs.replacing.temporary.Goals as goal
 
 pub name_of-requires-clause-n : goal.name_of-requires-clause-n

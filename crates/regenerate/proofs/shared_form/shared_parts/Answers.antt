@@ -1,11 +1,11 @@
 use Rattle.std.proofs.Common.{◌≡◌, ◌+◌, ◌<◌, ◌≤◌, Bool, false, List, length, ap, sym, subst, arith}
 use Rattle.f77_tree.specs.declared.programs.Exec.{Exec}
-use Rattle.regenerate.specs.Numbered.{number_of}
-use Rattle.regenerate.specs.Shared.{has_many_names, is_shared, most_words}
+use Rattle.shared_forms.specs.Numbered.{number_of}
+use Rattle.shared_forms.specs.Shared.{has_many_names, is_shared, most_words}
 use Rattle.simplified_forms.specs.Tables.{AreAnswers}
-use Rattle.regenerate.proofs.LongerTableLemmas.{shared-count}
-use Rattle.regenerate.proofs.ProperCandidates.{candidates-fit}
-use Rattle.regenerate.proofs.SharedLineLemmas.{statements-most}
+use Rattle.shared_forms.proofs.LongerTableLemmas.{shared-count}
+use Rattle.shared_forms.proofs.ProperCandidates.{candidates-fit}
+use Rattle.shared_forms.proofs.SharedLineLemmas.{statements-most}
 use Rattle.regenerate.proofs.SharedResults.{enough, refused-declared, refused-free, refused-lines, refused-words}
 use Rattle.regenerate.proofs.shared_form.shared_parts.Goals as goal
 

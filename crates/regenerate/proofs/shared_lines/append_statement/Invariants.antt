@@ -1,6 +1,6 @@
 use Rattle.std.proofs.Common.{◌≡◌, ◌++◌, map, take}
-use Rattle.regenerate.specs.Numbered.{number_of}
-use Rattle.regenerate.specs.Shared.{kept_value}
+use Rattle.shared_forms.specs.Numbered.{number_of}
+use Rattle.shared_forms.specs.Shared.{kept_value}
 use Rattle.regenerate.proofs.shared_lines.append_statement.Given as goal
 
 abbrev pub invariant-loop-n : goal.invariant-loop-n

@@ -2,11 +2,11 @@ use Rattle.std.proofs.Common.{◌≡◌, ◌+◌, All, List, [], ◌∷◌, ◌+
 use Rattle.std.proofs.lemmas.List.{length-append}
 use Rattle.flat_programs.specs.declared.statements.FlatLine.{FlatLine}
 use Rattle.simplified_forms.specs.Items.{own_piece}
-use Rattle.regenerate.specs.Numbered.{number_of, IsSharedNumber}
-use Rattle.regenerate.specs.Shared.{kept_value, replaced_in}
+use Rattle.shared_forms.specs.Numbered.{number_of, IsSharedNumber}
+use Rattle.shared_forms.specs.Shared.{kept_value, replaced_in}
 use Rattle.simplified_forms.specs.Simplified.{most_statements}
 use Rattle.simplified_forms.proofs.RangeCounts.{entry_read}
-use Rattle.regenerate.proofs.SharedLineLemmas.{due-shared, first-below, first-read, line-length, line-shared, lines-many, lines-next}
+use Rattle.shared_forms.proofs.SharedLineLemmas.{due-shared, first-below, first-read, line-length, line-shared, lines-many, lines-next}
 use Rattle.regenerate.proofs.TurnedLists.{next-turned}
 use Rattle.regenerate.proofs.shared_lines.shared_statements.Goals as goal
 

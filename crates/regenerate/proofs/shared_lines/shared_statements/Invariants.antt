@@ -1,5 +1,5 @@
 use Rattle.std.proofs.Common.{◌≡◌, ◌≤◌, drop, length, reverse}
-use Rattle.regenerate.proofs.SharedLineLemmas.{lines_to}
+use Rattle.shared_forms.proofs.SharedLineLemmas.{lines_to}
 use Rattle.regenerate.proofs.shared_lines.shared_statements.Given as goal
 
 abbrev pub invariant-loop-l : goal.invariant-loop-l

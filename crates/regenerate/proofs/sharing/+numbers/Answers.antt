@@ -1,8 +1,8 @@
 use Rattle.std.proofs.Common.{◌≡◌, ◌++◌, List, sym, ap, subst, ◌∙◌}
 use Rattle.std.specs.Prelude.{OnOk}
 use Rattle.f77_tree.specs.declared.expressions.Expr.{Expr}
-use Rattle.regenerate.specs.Numbered.{numbers_in, parts}
-use Rattle.regenerate.proofs.NumberLemmas.{parts-Read, parts-Apply}
+use Rattle.shared_forms.specs.Numbered.{numbers_in, parts}
+use Rattle.shared_forms.proofs.NumberLemmas.{parts-Read, parts-Apply}
 use Rattle.regenerate.proofs.sharing.+numbers.Goals as goal
 
 pub append_parts-returns-in-Read : goal.append_parts-returns-in-Read

@@ -1,6 +1,6 @@
 use Rattle.std.proofs.Common.{◌≡◌, ◌++◌, take}
 use Rattle.redundancy.specs.Collected.{all_subexpressions}
-use Rattle.regenerate.specs.Numbered.{numbers_in}
+use Rattle.shared_forms.specs.Numbered.{numbers_in}
 use Rattle.regenerate.proofs.sharing.+numbers.Given as goal
 
 abbrev pub invariant-append_all_numbers-loop-e : goal.invariant-append_all_numbers-loop-e

@@ -1,7 +1,7 @@
 use Rattle.std.proofs.Common.{◌≡◌, ◌++◌, take, flat_map}
 use Rattle.redundancy.specs.Collected.{all_subexpressions}
 use Rattle.redundancy.specs.Computed.{in_item}
-use Rattle.regenerate.specs.Numbered.{numbers_in}
+use Rattle.shared_forms.specs.Numbered.{numbers_in}
 use Rattle.regenerate.proofs.sharing.append_items.Given as goal
 
 abbrev pub invariant-loop-item : goal.invariant-loop-item

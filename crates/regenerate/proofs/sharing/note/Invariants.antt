@@ -1,7 +1,7 @@
 use Rattle.std.proofs.Common.{◌≡◌, ◌<◌, ◌||◌, ◌&&◌, ℕ, length, take}
 use Rattle.redundancy.specs.Available.{available_at}
 use Rattle.simplified_forms.specs.Plans.{answer}
-use Rattle.regenerate.specs.Shared.{is_one_of}
+use Rattle.shared_forms.specs.Shared.{is_one_of}
 use Rattle.regenerate.proofs.sharing.note.Given as goal
 
 abbrev pub invariant-loop-n : goal.invariant-loop-n

@@ -2,7 +2,7 @@ use Rattle.std.proofs.Common.{rules, ◌≡◌, ◌≤◌, List, Bool, length, a
 use Rattle.redundancy.specs.Computed.{computed_by}
 use Rattle.cfg_build.specs.Flow.{piece_at}
 use Rattle.simplified_forms.specs.Plans.{answer}
-use Rattle.regenerate.proofs.SharingLemmas.{numbers_at-below, noted-then, noted-else}
+use Rattle.shared_forms.proofs.SharingLemmas.{numbers_at-below, noted-then, noted-else}
 use Rattle.regenerate.proofs.sharing.note_executable.Goals as goal
 use Rattle.regenerate.proofs.sharing.note_executable.Goals.{then-node-pieces, else-node-pieces}
 

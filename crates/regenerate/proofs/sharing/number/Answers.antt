@@ -1,4 +1,4 @@
-use Rattle.regenerate.proofs.NumberLemmas.{number-told}
+use Rattle.shared_forms.proofs.NumberLemmas.{number-told}
 use Rattle.regenerate.proofs.sharing.number.Goals as goal
 
 pub returns : goal.returns

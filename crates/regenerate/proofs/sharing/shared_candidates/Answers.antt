@@ -1,7 +1,7 @@
 use Rattle.std.proofs.Common.{◌||◌, ◌&&◌, ℕ, Bool, sym, ap, ◌∙◌}
-use Rattle.regenerate.specs.Numbered.{number_of}
-use Rattle.regenerate.specs.Shared.{computed, is_available, is_one_of}
-use Rattle.regenerate.proofs.SharingLemmas.{list_any-range_more}
+use Rattle.shared_forms.specs.Numbered.{number_of}
+use Rattle.shared_forms.specs.Shared.{computed, is_available, is_one_of}
+use Rattle.shared_forms.proofs.SharingLemmas.{list_any-range_more}
 use Rattle.regenerate.proofs.sharing.shared_candidates.Goals as goal
 
 pub loop-k-preserved : goal.loop-k-preserved

@@ -1,8 +1,8 @@
 use Rattle.std.proofs.Common.{◌≡◌, ◌<◌, ◌&&◌, ℕ, length}
 use Rattle.std.specs.List.{list_any, range_with_len}
-use Rattle.regenerate.specs.Numbered.{number_of}
+use Rattle.shared_forms.specs.Numbered.{number_of}
 use Rattle.simplified_forms.specs.Plans.{answer}
-use Rattle.regenerate.specs.Shared.{computed, is_available, is_one_of}
+use Rattle.shared_forms.specs.Shared.{computed, is_available, is_one_of}
 use Rattle.regenerate.proofs.sharing.shared_candidates.Given as goal
 
 abbrev pub invariant-loop-k : goal.invariant-loop-k

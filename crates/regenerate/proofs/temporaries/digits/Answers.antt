@@ -1,5 +1,5 @@
 use Rattle.std.proofs.Common.{◌/◌, ◌%◌, ℕ, List, get_or, ap, arith}
-use Rattle.regenerate.proofs.TemporaryLemmas.{figures_make}
+use Rattle.shared_forms.proofs.TemporaryLemmas.{figures_make}
 use Rattle.regenerate.proofs.temporaries.digits.Goals as goal
 
 pub returns : goal.returns

@@ -1,7 +1,7 @@
 use Rattle.std.proofs.Common.{◌≡◌, ◌+◌, ◌-◌, ◌<◌, false, length, take, ap, sym, ◌∙◌, arith}
 use Rattle.std.proofs.lemmas.List.{get_or_read, take_all}
-use Rattle.regenerate.specs.Temporaries.{free_up_to, last_number, temporary_name}
-use Rattle.regenerate.proofs.TemporaryLemmas.{few-more, free-first, free_more, last_number-is}
+use Rattle.shared_forms.specs.Temporaries.{free_up_to, last_number, temporary_name}
+use Rattle.shared_forms.proofs.TemporaryLemmas.{few-more, free-first, free_more, last_number-is}
 use Rattle.regenerate.proofs.temporaries.first_free_names.Goals as goal
 
 pub used_numbers-requires : goal.used_numbers-requires

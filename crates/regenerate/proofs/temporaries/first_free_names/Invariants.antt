@@ -1,5 +1,5 @@
 use Rattle.std.proofs.Common.{◌≡◌, ◌≤◌, length}
-use Rattle.regenerate.specs.Temporaries.{free_up_to}
+use Rattle.shared_forms.specs.Temporaries.{free_up_to}
 use Rattle.regenerate.proofs.temporaries.first_free_names.Given as goal
 
 abbrev pub invariant-loop-k : goal.invariant-loop-k

@@ -1,5 +1,5 @@
 use Rattle.std.proofs.Common.{sym, ◌∙◌, arith}
-use Rattle.regenerate.proofs.TemporaryLemmas.{noted-name, noted-other, noted-past, number_told}
+use Rattle.shared_forms.proofs.TemporaryLemmas.{noted-name, noted-other, noted-past, number_told}
 use Rattle.regenerate.proofs.temporaries.note_name.Goals as goal
 
 pub returns-then-len-n-clause-noted : goal.returns-then-len-n-clause-noted

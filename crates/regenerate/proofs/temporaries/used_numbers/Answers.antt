@@ -1,7 +1,7 @@
 use Rattle.std.proofs.Common.{◌||◌, take, ap, sym, ◌∙◌, arith}
 use Rattle.std.specs.Prelude.{bytes_eq}
-use Rattle.regenerate.specs.Temporaries.{is_in_use, temporary_name}
-use Rattle.regenerate.proofs.TemporaryLemmas.{in_use-more}
+use Rattle.shared_forms.specs.Temporaries.{is_in_use, temporary_name}
+use Rattle.shared_forms.proofs.TemporaryLemmas.{in_use-more}
 use Rattle.regenerate.proofs.temporaries.used_numbers.Goals as goal
 
 pub loop-info-preserved : goal.loop-info-preserved

@@ -1,6 +1,6 @@
 use Rattle.std.proofs.Common.{◌≡◌, ◌<◌, ◌+◌, ℕ, length, take}
 use Rattle.simplified_forms.specs.Plans.{answer}
-use Rattle.regenerate.specs.Temporaries.{is_in_use, temporary_name}
+use Rattle.shared_forms.specs.Temporaries.{is_in_use, temporary_name}
 use Rattle.regenerate.proofs.temporaries.used_numbers.Given as goal
 
 abbrev pub invariant-loop-info : goal.invariant-loop-info

@@ -4,7 +4,7 @@ use Rattle.cfg_build.specs.Flow.{flow}
 use Rattle.cfg_build.specs.Joined.{FlowGraph}
 use Rattle.flat_programs.specs.FlatForm.{IsFlatProgram}
 use Rattle.redundancy.specs.Available.{IsAvailability}
-use Rattle.regenerate.specs.Shared.{IsShared}
+use Rattle.shared_forms.specs.Shared.{IsShared}
 use Rattle.rewriting.proofs.rewritten.shared.Goals as goal
 
 pub returns-clause-flat : goal.returns-clause-flat

@@ -1,0 +1,12 @@
+pub mod LongerTableLemmas
+pub mod NumberLemmas
+pub mod ProperCandidates
+pub mod ReplacedLemmas
+pub mod SharedLineLemmas
+pub mod SharedProper
+pub mod SharedSpread
+pub mod SharingLemmas
+pub mod SpreadFlat
+pub mod SpreadLists
+pub mod TemporaryLemmas
+pub mod TemporaryTable

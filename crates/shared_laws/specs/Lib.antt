@@ -1,0 +1,3 @@
+pub mod RewrittenSteps
+pub mod SharedRuns
+pub mod SharedFlat
