@@ -22,6 +22,3 @@ pub use read::read_statements;
 pub use signs::Sign;
 pub use statements::Statement;
 pub use tokens::{Node, Token, copied, is_sign, leaf};
-
-#[cfg(test)]
-mod tests;

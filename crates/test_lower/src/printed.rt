@@ -1,4 +1,4 @@
-use crate::*;
+use fortran_tree::{Name, Names, Printer, read_statements};
 use indexmap::IndexMap;
 use std::test::Fail;
 
