@@ -5,41 +5,75 @@ use Rattle.std.specs.Char.{is_ascii_digit, is_ascii_uppercase}
 use Rattle.form_advice.specs.declared.shapes.TheConstants.{OPERATOR_PAIRS, EMPTY_PAIRS}
 use Rattle.form_advice.specs.declared.shapes.Marks.{Marks}
 use Rattle.form_advice.specs.declared.shapes.Run.{Run}
+use Rattle.form_advice.specs.Said.{Said}
 
--- ---- what is wrong
+-- ---- what is wrong, and what to write instead
 
-abbrev pub open_text : List ℕ
-open_text = codes "a text in quotes isn't closed"
+abbrev pub open_text : Said
+open_text = record {
+  wrong = codes "a text in quotes isn't closed";
+  instead = codes "End it with a quote before column 73; a quote inside a text is written twice.";
+}
 
-abbrev pub empty_text : List ℕ
-empty_text = codes "a text in quotes has no characters"
+abbrev pub empty_text : Said
+empty_text = record {
+  wrong = codes "a text in quotes has no characters";
+  instead = codes "Write one blank or more: ' '.";
+}
 
-abbrev pub open_bracket : List ℕ
-open_bracket = codes "a bracket isn't closed"
+abbrev pub open_bracket : Said
+open_bracket = record {
+  wrong = codes "a bracket isn't closed";
+  instead = codes "Close it before column 73, or go on in the next line with a character in column 6.";
+}
 
-abbrev pub stray_bracket : List ℕ
-stray_bracket = codes "there are more closing brackets than opening ones"
+abbrev pub stray_bracket : Said
+stray_bracket = record {
+  wrong = codes "there are more closing brackets than opening ones";
+  instead = codes "Leave one out, or open it.";
+}
 
-abbrev pub unfinished : List ℕ
-unfinished = codes "the statement isn't finished"
+abbrev pub unfinished : Said
+unfinished = record {
+  wrong = codes "the statement isn't finished";
+  instead = codes "Add what is missing at its end, before column 73, or go on in the next line with a character in column 6.";
+}
 
-abbrev pub real_constant : List ℕ
-real_constant = codes "a number with a point is real, and real numbers aren't in the language"
+abbrev pub real_constant : Said
+real_constant = record {
+  wrong = codes "a number with a point is real, and real numbers aren't in the language";
+  instead = codes "Use integers, scaled where there are fractions.";
+}
 
-abbrev pub two_operators : List ℕ
-two_operators = codes "two operators stand side by side"
+abbrev pub two_operators : Said
+two_operators = record {
+  wrong = codes "two operators stand side by side";
+  instead = codes "Put the second one and its operand into brackets: 2*(-3).";
+}
 
-abbrev pub empty_place : List ℕ
-empty_place = codes "an operand or an item is missing"
+abbrev pub empty_place : Said
+empty_place = record {
+  wrong = codes "an operand or an item is missing";
+  instead = codes "Write one between the signs, or leave a sign out.";
+}
 
-abbrev pub equals : List ℕ
-equals = codes "a condition has an equals sign"
+abbrev pub equals : Said
+equals = record {
+  wrong = codes "a condition has an equals sign";
+  instead = codes "Compare integers by .EQ. and logical values by .EQV.";
+}
 
-abbrev pub two_equals : List ℕ
-two_equals = codes "a statement has two equals signs"
+abbrev pub two_equals : Said
+two_equals = record {
+  wrong = codes "a statement has two equals signs";
+  instead = codes "Write one statement a line, and assign to one name at a time; values are compared by .EQ.";
+}
 
-abbrev pub long_name : List ℕ
-long_name = codes "a name is longer than six characters"
+abbrev pub long_name : Said
+long_name = record {
+  wrong = codes "a name is longer than six characters";
+  instead = codes "Make it shorter: a name has a letter and up to five letters and digits. Or use --wide.";
+}
 
 -- an apostrophe opens a constant, and the next one closes it
 abbrev pub toggled : (inside : Bool) → ℕ → Bool
@@ -134,7 +168,7 @@ has_long_name plain = (fold run_after (record { length = 0; counts = begins_with
 
 -- ---- what is told
 
-abbrev pub advice_on_operands : (plain : List ℕ) → Option (List ℕ)
+abbrev pub advice_on_operands : (plain : List ℕ) → Option Said
 advice_on_operands plain =
     if has_point plain then Some real_constant
     else (if list_any (λ pair. has plain pair.now) OPERATOR_PAIRS then Some two_operators
@@ -144,7 +178,7 @@ advice_on_operands plain =
     else (if not (begins plain (codes "WRITE")) && not (begins plain (codes "READ")) && list_any (λ pair. has plain pair.now) EMPTY_PAIRS then Some empty_place
     else None)))))
 
-abbrev pub advice_on_shape : (text plain : List ℕ) → Option (List ℕ)
+abbrev pub advice_on_shape : (text plain : List ℕ) → Option Said
 advice_on_shape text plain =
     if count text 39 % 2 == 1 then Some open_text
     else (if has_empty_text text then Some empty_text

@@ -1,7 +1,8 @@
 //! Statements that have no form of the language: what each looks like.
 
 ghost use Rattle.std.specs.Prelude.{◌≡◌, IfOk, option_map};
-ghost use Rattle.form_advice.specs.Forms.{advice_on_form as advice_on_form_of, advice_on_plain as advice_on_plain_of, begun_like as begun_like_of, with_sign as with_sign_of};
+ghost use Rattle.form_advice.specs.Forms.{advice_on_form as advice_on_form_of, advice_on_plain as advice_on_plain_of, begun_like as begun_like_of, said_by, with_sign as with_sign_of};
+ghost use Rattle.form_advice.specs.Said.{said};
 
 use crate::advice::Advice;
 use crate::shapes::{advice_on_shape, has, is_assignment, without_constants};
@@ -15,7 +16,8 @@ pub(crate) struct Row(&'static str, &'static str, &'static str);
 /// What functions are told for.
 const FUNCTION: &str = "functions of your own aren't in the language";
 
-const SUBROUTINE: &str = "Write a SUBROUTINE with one dummy more for the value, and CALL it.";
+const SUBROUTINE: &str =
+    "Write a SUBROUTINE with one dummy more for the value, and CALL it. Or use --wide, which takes functions of integers and logical values.";
 
 /// What statements on files are told for.
 const FILE: &str = "files aren't in the language";
@@ -31,36 +33,36 @@ const SCALE: &str = "Use INTEGER, scaled where there are fractions.";
 /// What a name after END is told for.
 const NAMED_END: &str = "END takes no name";
 
-const END: &str = "Write END alone.";
+const END: &str = "Write END alone. Or use --wide.";
 
 /// What a kind's length is told for.
 const LENGTH: &str = "a type has no length here";
 
 /// What the names and bounds of a declaration are told for.
 const BOUNDS: &str =
-    "Bounds are numbers, in a subroutine too, and those of the caller's array; values come from DATA; a name has at most six letters and digits.";
+    "Bounds are numbers, in a subroutine too, and those of the caller's array; values come from DATA; a name has at most six letters and digits. Or use --wide.";
 
 /// Statements that the language lacks, by what they begin with. The first row that fits counts.
 const LACKING: [Row; 38] = [
     Row(
         "PARAMETER",
         "PARAMETER isn't in the language",
-        "Write the number itself in bounds and DATA; elsewhere assign it to a variable.",
+        "Write the number itself in bounds and DATA; elsewhere assign it to a variable. Or use --wide.",
     ),
     Row(
         "SAVE",
         "SAVE isn't in the language",
-        "Leave it out: what a subroutine has of its own keeps its value.",
+        "Leave it out: what a subroutine has of its own keeps its value. Or use --wide.",
     ),
     Row(
         "EXTERNAL",
         "EXTERNAL isn't in the language",
-        "Leave it out: no name of a subprogram can be passed.",
+        "Leave it out: no name of a subprogram can be passed. Or use --wide.",
     ),
     Row(
         "INTRINSIC",
         "INTRINSIC isn't in the language",
-        "Leave it out: no name of a function can be passed.",
+        "Leave it out: no name of a function can be passed. Or use --wide.",
     ),
     Row(
         "FORMAT",
@@ -100,13 +102,13 @@ const LACKING: [Row; 38] = [
     Row(
         "INTEGER*",
         LENGTH,
-        "Write INTEGER: each integer is a word of 32 bits.",
+        "Write INTEGER: each integer is a word of 32 bits. Or use --wide.",
     ),
     Row("LOGICAL*", LENGTH, "Write LOGICAL."),
     Row(
         "BLOCKDATA",
         "BLOCK DATA isn't in the language",
-        "Put the DATA into the main program, or into a subroutine that is called.",
+        "Put the DATA into the main program, or into a subroutine that is called. Or use --wide.",
     ),
     Row(
         "ENTRY",
@@ -116,12 +118,12 @@ const LACKING: [Row; 38] = [
     Row(
         "ENDDO",
         "END DO isn't in the language",
-        "Write DO 10 I=1,N and end the loop at a line with label 10 and CONTINUE.",
+        "Write DO 10 I=1,N and end the loop at a line with label 10 and CONTINUE. Or use --wide.",
     ),
     Row(
         "DOWHILE",
         "DO WHILE isn't in the language",
-        "Write 10 IF (.NOT.(..)) GO TO 20, the statements, GO TO 10, and 20 CONTINUE.",
+        "Write 10 IF (.NOT.(..)) GO TO 20, the statements, GO TO 10, and 20 CONTINUE. Or use --wide.",
     ),
     Row(
         "DOCONCURRENT",
@@ -208,7 +210,7 @@ const SIGNS: [Row; 14] = [
     Row(
         "_",
         "a name has an underscore",
-        "Leave it out: a name has a letter and up to five letters and digits.",
+        "Leave it out: a name has a letter and up to five letters and digits. Or use --wide.",
     ),
     Row(
         "$",
@@ -218,7 +220,7 @@ const SIGNS: [Row; 14] = [
     Row(
         "!",
         "a comment stands behind a statement",
-        "Put it in a line of its own, with C or * in column 1.",
+        "Put it in a line of its own, with C or * in column 1. Or use --wide.",
     ),
     Row(
         ";",
@@ -243,7 +245,7 @@ const KNOWN: [Row; 22] = [
     Row(
         "PRINT",
         "PRINT takes *, a comma and items, which are expressions and texts of one character or more",
-        "Write PRINT *,I,'A'; no list in brackets with a DO is an item, and no label of a FORMAT stands there.",
+        "Write PRINT *,I,'A'; no list in brackets with a DO is an item, and no label of a FORMAT stands there. Or use --wide.",
     ),
     Row(
         "WRITE",
@@ -258,7 +260,7 @@ const KNOWN: [Row; 22] = [
     Row(
         "CALL",
         "the arguments of a CALL are names alone",
-        "Assign a constant, an expression or an element to a variable first, and give its name.",
+        "Assign a constant, an expression or an element to a variable first, and give its name; for a label give a number, and branch on it behind the CALL. Or use --wide for constants and expressions.",
     ),
     Row(
         "SUBROUTINE",
@@ -313,7 +315,7 @@ const KNOWN: [Row; 22] = [
     Row(
         "DATA",
         "DATA takes names or elements, and constants between slashes",
-        "Write DATA A/10*0/ for a whole array: no list with a DO and no name of a constant stands there.",
+        "Write DATA A/10*0/ for a whole array: no list with a DO and no name of a constant stands there. Or use --wide.",
     ),
     Row(
         "GOTO",
@@ -383,7 +385,7 @@ pub const TABLES: Tables = Tables {
 ///
 /// `NoMemory` where memory runs out.
 pub fn advice_on_form(alloc: Global, tables: &Tables, text: &[u8]) -> Result<Advice, NoMemory>
-    ensures { IfOk result (λ advice. advice.wrong.now ≡ advice_on_form_of tables.now text.now) }
+    ensures { IfOk result (λ advice. said advice ≡ advice_on_form_of tables.now text.now) }
 {
     let plain = without_constants(alloc, text)?;
     Ok(advice_on_plain(tables, text, plain.as_slice()))
@@ -391,7 +393,7 @@ pub fn advice_on_form(alloc: Global, tables: &Tables, text: &[u8]) -> Result<Adv
 
 // The same by tables, of a text and of that without its character constants.
 fn advice_on_plain(tables: &Tables, text: &[u8], plain: &[u8]) -> Advice
-    ensures { result.wrong.now ≡ advice_on_plain_of tables.now text.now plain.now }
+    ensures { said result ≡ advice_on_plain_of tables.now text.now plain.now }
 {
     if !is_assignment(plain)
         && let Some(advice) = begun_like(tables.lacking, plain)
@@ -412,7 +414,7 @@ fn advice_on_plain(tables: &Tables, text: &[u8], plain: &[u8]) -> Advice
 
 // What the first row tells that the text begins with.
 fn begun_like(rows: &[Row], text: &[u8]) -> Option<Advice>
-    ensures { option_map (λ advice. advice.wrong.now) result ≡ begun_like_of rows.now text.now }
+    ensures { option_map said result ≡ begun_like_of rows.now text.now }
 {
     rows.iter()
         .find(|row| text.starts_with(row.0.as_bytes()))
@@ -421,7 +423,7 @@ fn begun_like(rows: &[Row], text: &[u8]) -> Option<Advice>
 
 // What the first row tells that the text has somewhere.
 fn with_sign(rows: &[Row], text: &[u8]) -> Option<Advice>
-    ensures { option_map (λ advice. advice.wrong.now) result ≡ with_sign_of rows.now text.now }
+    ensures { option_map said result ≡ with_sign_of rows.now text.now }
 {
     rows.iter()
         .find(|row| has(text, row.0.as_bytes()))
@@ -429,8 +431,7 @@ fn with_sign(rows: &[Row], text: &[u8]) -> Option<Advice>
 }
 
 fn advice_of(row: &Row) -> Advice
-    ensures wrong { result.wrong.now ≡ row.now.1.now }
-    ensures instead { result.instead.now ≡ row.now.2.now }
+    ensures { said result ≡ said_by row.now }
 {
     Advice {
         wrong: row.1,

@@ -3,6 +3,7 @@
 ghost use Rattle.std.specs.Prelude.{◌≡◌, ◌==◌, false, IfOk, option_map};
 ghost use Rattle.std.specs.List.{count_by, list_any};
 ghost use Rattle.form_advice.specs.Shapes.{after as after_of, advice_on_operands as advice_on_operands_of, advice_on_shape as advice_on_shape_of, has as has_in, has_empty_text as has_empty_text_in, has_long_name as has_long_name_in, has_point as has_point_in, is_assignment as is_assignment_in, is_point as is_point_at, compares_by_equals as compares_by_equals_in, depth_after as depth_after_of, is_unfinished as is_unfinished_in, marks_of as marks_in, run_after, without_constants as without_constants_of};
+ghost use Rattle.form_advice.specs.Said.{said};
 
 use crate::advice::Advice;
 use df_sequence::NoMemory;
@@ -63,12 +64,12 @@ const TWO_EQUALS: Advice = Advice {
 
 const LONG_NAME: Advice = Advice {
     wrong: "a name is longer than six characters",
-    instead: "Make it shorter: a name has a letter and up to five letters and digits.",
+    instead: "Make it shorter: a name has a letter and up to five letters and digits. Or use --wide.",
 };
 
 /// Two signs of which the second can't follow the first.
-pub(crate) const OPERATOR_PAIRS: [&str; 9] = [
-    "+-", "+*", "-+", "-*", "*-", "*+", "/-", "/+", "***",
+pub(crate) const OPERATOR_PAIRS: [&str; 11] = [
+    "++", "+-", "+*", "--", "-+", "-*", "*-", "*+", "/-", "/+", "***",
 ];
 
 /// Two signs between which something is missing.
@@ -94,7 +95,7 @@ pub(crate) fn without_constants(alloc: Global, text: &[u8]) -> Result<Vec<u8>, N
 /// What is told of the shape of a text, where something is wrong with it: of the whole text, and of that without its
 /// character constants.
 pub(crate) fn advice_on_shape(text: &[u8], plain: &[u8]) -> Option<Advice>
-    ensures { option_map (λ advice. advice.wrong.now) result ≡ advice_on_shape_of text.now plain.now }
+    ensures { option_map said result ≡ advice_on_shape_of text.now plain.now }
 {
     if count(text, b'\'') % 2 == 1 {
         return Some(OPEN_TEXT);
@@ -118,7 +119,7 @@ pub(crate) fn advice_on_shape(text: &[u8], plain: &[u8]) -> Option<Advice>
 
 // What is told of numbers, operators and names.
 fn advice_on_operands(plain: &[u8]) -> Option<Advice>
-    ensures { option_map (λ advice. advice.wrong.now) result ≡ advice_on_operands_of plain.now }
+    ensures { option_map said result ≡ advice_on_operands_of plain.now }
 {
     if has_point(plain) {
         return Some(REAL_CONSTANT);

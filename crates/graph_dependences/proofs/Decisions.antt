@@ -1,8 +1,7 @@
 -- Dependences on decisions.
-use Rattle.std.proofs.Common.{◌≡◌, ◌↔◌, ◌&&◌, ◌⊎◌, ℕ, Bool, true, false, List, [], length, None, Some, nat_le, slice_get, slice_index_or, sym, subst, ◌∙◌, refl, arith}
+use Rattle.std.proofs.Common.{◌≡◌, ◌↔◌, ◌&&◌, ◌⊎◌, ℕ, Bool, true, false, List, [], Contains, length, None, Some, nat_le, slice_get, slice_index_or, sym, subst, ◌∙◌, refl, arith}
 use Rattle.std.specs.List.{list_any}
-use Rattle.std.specs.List.Sorted.{IsPermutation}
-use Rattle.std.proofs.lemmas.List.Sorted.{Contains-permutation, IsPermutation-sym}
+use Rattle.std.specs.List.Sorted.{IsStrictlySortedBy}
 use Rattle.std.proofs.lemmas.List.Folds.{Any-from_list_any, list_any-from_Any}
 use Rattle.printed_graphs.specs.declared.dataflow.PrintedGraph.{PrintedGraph}
 use Rattle.printed_graphs.specs.declared.flow.Edge.{Edge}
@@ -11,6 +10,7 @@ use Rattle.printed_graphs.specs.declared.flow.PrintedFlow.{PrintedFlow}
 use Rattle.graph_dependences.specs.Added.{Adds, Below}
 use Rattle.graph_dependences.specs.Control.{Controls, Evades, LeadsTo, is_branch, is_statement}
 use Rattle.graph_dependences.specs.Dependences.{AreDependences, DependsBy, DependsOnDecision, DependsOnSome, IfTold, IsDependence, leads}
+use Rattle.graph_dependences.specs.InOrder.{in_order}
 use Rattle.graph_dependences.specs.declared.dependence.Dependence.{Dependence}
 use Rattle.graph_dependences.specs.declared.kinds.Kind.TheVariants as kind
 use Rattle.graph_dependences.proofs.Added.{Adds-as, Adds-both, Adds-nothing, Adds-told}
@@ -116,12 +116,13 @@ none_added flow second two at none xs = Adds-nothing xs (DependsOnSome flow seco
     let wrong : true ≡ false = sym acts ∙ none in
     cc)
 
--- those by token lines, those on decisions, and the same in another order
-pub are_all : (g : PrintedGraph) (flow : PrintedFlow) (n : ℕ) (xs ys zs : List Dependence) → n ≡ length g.lines.items → Adds [] xs (Below (DependsBy g flow) n) → Adds xs ys (Below (DependsOnSome flow) (length flow.pieces.items)) → IsPermutation ys zs → AreDependences g flow zs
-are_all g flow n xs ys zs whole by_lines by_decisions order =
+-- those by token lines, those on decisions, and the same in order
+pub are_all : (g : PrintedGraph) (flow : PrintedFlow) (n : ℕ) (xs ys zs : List Dependence) → n ≡ length g.lines.items → Adds [] xs (Below (DependsBy g flow) n) → Adds xs ys (Below (DependsOnSome flow) (length flow.pieces.items)) → ((d : Dependence) → Contains zs d ↔ Contains ys d) → IsStrictlySortedBy in_order zs → AreDependences g flow zs
+are_all g flow n xs ys zs whole by_lines by_decisions same ordered =
     let both : Adds [] ys (λ d. Below (DependsBy g flow) n d ⊎ Below (DependsOnSome flow) (length flow.pieces.items) d) = Adds-both [] xs ys (Below (DependsBy g flow) n) (Below (DependsOnSome flow) (length flow.pieces.items)) by_lines by_decisions in
     let all : Adds [] ys (IsDependence g flow) = subst (λ (k : ℕ). Adds [] ys (λ d. Below (DependsBy g flow) k d ⊎ Below (DependsOnSome flow) (length flow.pieces.items) d)) whole both in
     record {
-      told = λ d h. Adds-told ys (IsDependence g flow) all d (Contains-permutation zs ys d (IsPermutation-sym ys zs order) h);
-      whole = λ d h. Contains-permutation ys zs d order (all.all d h);
+      told = λ d h. Adds-told ys (IsDependence g flow) all d ((same d).0 h);
+      whole = λ d h. (same d).1 (all.all d h);
+      ordered = ordered;
     }

@@ -1,4 +1,5 @@
 pub mod Added
 pub mod Between
 pub mod Decisions
+mod InOrder
 pub mod WaitLaws

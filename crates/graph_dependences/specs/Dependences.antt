@@ -1,5 +1,6 @@
 -- What a dependence is.
 use Rattle.std.specs.Prelude.{◌≡◌, ◌≢◌, ◌==◌, ◌&&◌, ◌⊎◌, ℕ, Bool, false, not, true, if◌then◌else◌, List, Contains, length, min, max, nat_le, None, Some, slice_get, slice_index_or}
+use Rattle.std.specs.List.Sorted.{IsStrictlySortedBy}
 use Rattle.printed_graphs.specs.Nodes.{piece_of}
 use Rattle.printed_graphs.specs.declared.dataflow.Node.{Node}
 use Rattle.printed_graphs.specs.declared.dataflow.PrintedGraph.{PrintedGraph}
@@ -8,6 +9,7 @@ use Rattle.printed_graphs.specs.declared.flow.Piece.{Piece}
 use Rattle.printed_graphs.specs.declared.flow.PrintedFlow.{PrintedFlow}
 use Rattle.graph_dependences.specs.Added.{Below}
 use Rattle.graph_dependences.specs.Control.{Controls, is_branch, is_statement}
+use Rattle.graph_dependences.specs.InOrder.{in_order}
 use Rattle.graph_dependences.specs.Joined.{Leads, steps_of}
 use Rattle.graph_dependences.specs.Nodes.{is_output_line, kind_of, text_line}
 use Rattle.graph_dependences.specs.Ways.{ways_of}
@@ -77,7 +79,8 @@ DependsOnSome flow second = Below (DependsOnDecision flow second) (length flow.p
 abbrev pub IsDependence : PrintedGraph → PrintedFlow → Dependence → Type 0
 IsDependence g flow d = Below (DependsBy g flow) (length g.lines.items) d ⊎ Below (DependsOnSome flow) (length flow.pieces.items) d
 
--- the list has all dependences, and nothing else
+-- the list has all dependences, each once and in order, and nothing else
 pub record AreDependences (g : PrintedGraph) (flow : PrintedFlow) (all : List Dependence) : Type 0 where
   pub told : (d : Dependence) → Contains all d → IsDependence g flow d
   pub whole : (d : Dependence) → IsDependence g flow d → Contains all d
+  pub ordered : IsStrictlySortedBy in_order all

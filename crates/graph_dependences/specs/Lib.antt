@@ -2,6 +2,7 @@ pub mod Added
 pub mod By
 pub mod Control
 pub mod Dependences
+pub mod InOrder
 pub mod Joined
 pub mod Nodes
 pub mod Waiting

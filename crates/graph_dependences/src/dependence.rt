@@ -1,6 +1,8 @@
-ghost use Rattle.std.specs.Prelude.{◌≡◌, true, ◌≤◌, ◌^◌, Contains, IfOk, OnOk, length};
+ghost use Rattle.std.specs.Prelude.{◌↔◌, ◌≤◌, ◌^◌, Contains, IfOk, OnOk, length};
+ghost use Rattle.std.specs.List.Sorted.{IsStrictlySortedBy};
 ghost use Rattle.graph_dependences.specs.Added.{Adds};
 ghost use Rattle.graph_dependences.specs.Dependences.{AreDependences, DependsBy, IfTold};
+ghost use Rattle.graph_dependences.specs.InOrder.{in_order};
 
 use crate::control::add_controls;
 use crate::fault::DependenceFault;
@@ -9,7 +11,7 @@ use crate::nodes::is_output;
 use crate::pairs::{By, add_on};
 use crate::ways::ways_of;
 use printed_graphs::{PrintedFlow, PrintedGraph};
-use std::alloc::Global;
+use std::alloc::{AllocError, Global};
 
 /// A dependence of a statement on one that has to come before it. Statements are told by the lines of the text at which they begin, counted
 /// from 1.
@@ -50,8 +52,18 @@ pub fn dependences(
         add_by_line(alloc, graph, flow, line, &mut all)?;
     }
     add_controls(alloc, flow, &mut all)?;
-    all.sort()?;
+    put_in_order(&mut all)?;
     Ok(all)
+}
+
+// Puts dependences in order, and leaves each once.
+fn put_in_order(all: &mut Vec<Dependence>) -> Result<(), AllocError>
+    ensures ordered { OnOk result (IsStrictlySortedBy in_order all.new.items) }
+    ensures same { OnOk result ((d : Dependence) → Contains all.new.items d ↔ Contains all.old.items d) }
+{
+    all.sort()?;
+    all.dedup();
+    Ok(())
 }
 
 // Adds the dependences by a token line.
@@ -81,7 +93,7 @@ fn add_by_line(
     Ok(())
 }
 
-/// Adds a dependence if it is one, unless it stands there already or is one of a statement on itself that no loop carries.
+/// Adds a dependence if it is one, unless it is one of a statement on itself that no loop carries.
 pub fn add_if(
     is_one: bool,
     dependence: Dependence,
@@ -89,32 +101,8 @@ pub fn add_if(
 ) -> Result<(), DependenceFault>
     ensures { OnOk result (Adds all.old.items all.new.items (IfTold is_one dependence)) }
 {
-    let is_told = is_one && (dependence.from != dependence.to || dependence.is_carried);
-    if is_told && !has(all.as_slice(), dependence) {
+    if is_one && (dependence.from != dependence.to || dependence.is_carried) {
         all.push(dependence)?;
     }
     Ok(())
-}
-
-// Whether a dependence stands in a list.
-fn has(all: &[Dependence], wanted: Dependence) -> bool
-    ensures { result ≡ true → Contains all.now wanted }
-{
-    for found in all {
-        if is_same(*found, wanted) {
-            return true;
-        }
-    }
-    false
-}
-
-// Whether this is the same dependence.
-fn is_same(a: Dependence, b: Dependence) -> bool
-    ensures { result ≡ true → a ≡ b }
-{
-    a.from == b.from
-        && a.to == b.to
-        && a.kind == b.kind
-        && a.token_line == b.token_line
-        && a.is_carried == b.is_carried
 }

@@ -96,7 +96,7 @@ impl fmt::Display for KindCause<'_> {
 }
 
 const REAL_NAME: &str =
-    "Declare it by INTEGER or LOGICAL, or write IMPLICIT INTEGER(A-Z): a name is real unless it begins with I to N.";
+    "Declare it by INTEGER or LOGICAL, or write IMPLICIT INTEGER(A-Z) in place of any other IMPLICIT: without one a name is real unless it begins with I to N.";
 
 const TYPED_TWICE: &str = "Leave one of the two out.";
 

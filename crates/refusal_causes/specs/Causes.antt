@@ -48,7 +48,7 @@ block_wrong (blocks.BlockMember block line here there) =
 -- of a label
 abbrev pub label_wrong : LabelCause → List ℕ
 label_wrong (labels.LabelTwice label line) = codes "label " ++ decimal label ++ codes " stands on line " ++ decimal line ++ codes " too"
-label_wrong (labels.NoLabel label) = codes "no executable statement of this unit but ELSE and ELSE IF has label " ++ decimal label
+label_wrong (labels.NoLabel label) = codes "no statement of this unit that a jump or a DO may name has label " ++ decimal label
 
 abbrev pub wrong : Cause → List ℕ
 wrong (cause.Rule advice) = advice.wrong.now

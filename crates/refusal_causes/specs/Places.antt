@@ -42,7 +42,7 @@ abbrev pub initial_values : List ℕ
 initial_values = codes "a DATA statement can't be met"
 
 abbrev pub no_if : List ℕ
-no_if = codes "ELSE, ELSE IF or END IF has no IF with THEN above it that is open here"
+no_if = codes "no IF with THEN that is open here takes this ELSE, ELSE IF or END IF"
 
 abbrev pub open_at_end : List ℕ
 open_at_end = codes "a DO or an IF is open at END"

@@ -24,7 +24,7 @@ impl fmt::Display for LabelCause {
             }
             LabelCause::NoLabel { label } => write!(
                 f,
-                "no executable statement of this unit but ELSE and ELSE IF has label {label}"
+                "no statement of this unit that a jump or a DO may name has label {label}"
             ),
         }
     }

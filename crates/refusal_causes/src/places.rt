@@ -14,7 +14,7 @@ const SUBROUTINE_FIRST: Advice = Advice {
 
 const AFTER_END: Advice = Advice {
     wrong: "a statement stands behind END, and is no SUBROUTINE",
-    instead: "Begin a unit with SUBROUTINE, or put the statement above END.",
+    instead: "Begin a unit with SUBROUTINE, put the statement above END, or leave it out.",
 };
 
 const RETURN_IN_MAIN: Advice = Advice {
@@ -63,7 +63,7 @@ const INITIAL_VALUES: Advice = Advice {
 };
 
 const NO_IF: Advice = Advice {
-    wrong: "ELSE, ELSE IF or END IF has no IF with THEN above it that is open here",
+    wrong: "no IF with THEN that is open here takes this ELSE, ELSE IF or END IF",
     instead: "End each DO that began behind the IF first; an IF has one ELSE, behind each ELSE IF.",
 };
 

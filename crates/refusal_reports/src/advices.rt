@@ -11,7 +11,7 @@ use refusal_causes::{advice_on_layout, advice_on_nesting, advice_on_order};
 
 const TAB: Advice = Advice {
     wrong: "a tab stands in a statement",
-    instead: "Write blanks in its place: labels stand in columns 1 to 5, statements in columns 7 to 72.",
+    instead: "Write blanks in its place: labels stand in columns 1 to 5, statements in columns 7 to 72. Or use --wide.",
 };
 
 const CARRIAGE_RETURN: Advice = Advice {
@@ -31,7 +31,7 @@ const CONTROL: Advice = Advice {
 
 const EXCLAMATION: Advice = Advice {
     wrong: "a comment begins with !",
-    instead: "Write C or * in column 1 of a comment line.",
+    instead: "Write C or * in column 1 of a comment line. Or use --wide.",
 };
 
 const NO_LABEL: Advice = Advice {

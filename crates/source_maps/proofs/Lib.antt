@@ -1,1 +1,2 @@
+mod LastWords
 mod Pairs

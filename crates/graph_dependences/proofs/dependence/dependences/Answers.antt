@@ -15,4 +15,4 @@ loop-line-preserved c =
 pub returns : goal.returns
 returns c =
     let whole : c.loop-line.line ≡ length c.args.graph.now.lines.items = omega (arith, c.loop-line-test.false, c.loop-line.auto.line-end, c.len-line-end.ensures, c.len-else-len-gt-MOST_NODES.ensures, c.if-len-gt-MOST_NODES-2.false) in
-    are_all c.args.graph.now c.args.flow.now c.loop-line.line c.loop-line.all.items c.add_controls.new.all.items c.sort.new.self.items whole c.loop-line.invariant c.in_ok-add_controls.ensures c.sort.ensures.permutation
+    are_all c.args.graph.now c.args.flow.now c.loop-line.line c.loop-line.all.items c.add_controls.new.all.items c.put_in_order.new.all.items whole c.loop-line.invariant c.in_ok-add_controls.ensures c.in_ok-put_in_order.ensures.same c.in_ok-put_in_order.ensures.ordered
