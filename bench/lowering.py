@@ -308,6 +308,12 @@ def program(chance):
     return "".join(units)
 
 
+def command(text):
+    """The words of a command; a program that is named by its path is found from every folder."""
+    program, *words = shlex.split(text)
+    return [os.path.abspath(program) if "/" in program else program, *words]
+
+
 def output(words, folder, **more):
     try:
         done = subprocess.run(words, cwd=folder, stdout=subprocess.PIPE, stderr=subprocess.DEVNULL, timeout=60, **more)
@@ -407,14 +413,14 @@ def main():
     parser.add_argument("--fortran", default="gfortran")
     parser.add_argument("--mutations", type=int)
     words = parser.parse_args()
+    lower, dfc, fortran = (command(it) for it in (words.lower, words.dfc, words.fortran))
     if words.mutations:
-        sys.exit(0 if mutations(words.mutations, words.seed, shlex.split(words.lower), shlex.split(words.dfc)) else 1)
+        sys.exit(0 if mutations(words.mutations, words.seed, lower, dfc) else 1)
     wrong = 0
     with tempfile.TemporaryDirectory() as folder:
         for number in range(words.seed, words.seed + words.count):
             text = program(random.Random(number))
-            commands = [shlex.split(it) for it in (words.lower, words.dfc, words.fortran)]
-            said = differs(text, *commands, folder)
+            said = differs(text, lower, dfc, fortran, folder)
             if said:
                 wrong += 1
                 if wrong <= 5:
